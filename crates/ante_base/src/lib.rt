@@ -1,0 +1,14 @@
+//! What the node meets outside: a source of bytes and a sink for bytes, each with a count of its faults.
+#![tactic(auto)]
+
+mod memory;
+mod sink;
+mod source;
+mod streams;
+mod transfer;
+
+pub use memory::{MemSink, MemSource};
+pub use sink::{Put, Sink};
+pub use source::{Got, Source};
+pub use streams::{ReadSource, WriteSink};
+pub use transfer::{SinkFailed, Stopped, read_up_to, write_all};
