@@ -1,13 +1,22 @@
-// A library with one function.
+//! Names, keys and authorities, and the packed fields that all binary forms of the chain are made of.
 #![tactic(auto)]
 
-ghost use Rattle.std.specs.Prelude.{◌≡◌};
-ghost use Rattle.ante_pack.specs.Echo.{echo_of};
+mod authority;
+mod fault;
+mod lists;
+mod names;
+mod packed;
+mod reader;
 
-// The `ensures` clause is the contract: what `echo` returns is `echo_of` of its argument, a definition
-// in `specs/Echo.antt`, which a caller's clause can cite too.
-pub fn echo(x: usize) -> usize
-    ensures { result ≡ echo_of x }
-{
-    x
-}
+pub use authority::{Authority, KeyWeight, Level, LevelWeight, WaitWeight};
+pub use fault::{PackFault, ReadFault};
+pub use lists::{Bytes, Seq};
+pub use names::{Key256, Name, TableKey};
+pub use packed::{Packed, read_seq, read_whole};
+pub use reader::PackReader;
+
+/// A SHA-256 digest.
+pub type Digest = [u8; 32];
+
+/// A public key: a kind byte, 0 or 1, and 33 bytes.
+pub type Key = [u8; 34];
