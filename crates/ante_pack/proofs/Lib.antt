@@ -1,2 +1,6 @@
 pub mod Items
 pub mod Varuint
+pub mod Steps
+pub mod Codec
+pub mod Repeated
+pub mod Values
