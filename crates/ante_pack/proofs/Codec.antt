@@ -8,11 +8,8 @@ use Rattle.std.proofs.lemmas.List.Concat.{flat_map-cons}
 use Rattle.std.proofs.lemmas.Nat.{le_bytes_2, le_bytes_4, le_bytes_8, from_le_bytes-to_le_bytes_2, from_le_bytes-to_le_bytes_4, from_le_bytes-to_le_bytes_8}
 use Rattle.ante_pack.specs.declared.fault.PackFault.{PackFault}
 use Rattle.ante_pack.specs.declared.fault.PackFault.TheVariants.{Short, LongVaruint, KeyKind}
-use Rattle.ante_pack.specs.Forms.{Cursor, advanced, Form, ◌>>=◌, bytes_at, number, fixed, pair, made_of, varuint_bytes, varuint_within, varuint, string, items_at, list_of}
+use Rattle.ante_pack.specs.Forms.{Cursor, advanced, Form, ◌>>=◌, bytes_at, number, fixed, pair, made_of, varuint_bytes, varuint_within, varuint, string, items_at, list_of, IsBytes}
 use Rattle.ante_pack.proofs.Steps.{bind_ok, guard_ok, done, ok_is}
-
-abbrev pub IsBytes : List ℕ → Type 0
-IsBytes bytes = (i : ℕ) → get_or bytes i 0 < 256
 
 pub IsBytes-drop : (n : ℕ) (bytes : List ℕ) → IsBytes bytes → IsBytes (drop n bytes)
 IsBytes-drop n bytes h i = rw get_or-drop (h (n + i))

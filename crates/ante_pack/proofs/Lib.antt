@@ -4,3 +4,5 @@ pub mod Steps
 pub mod Codec
 pub mod Repeated
 pub mod Values
+pub mod Consequences
+pub mod Pieces

@@ -3,17 +3,20 @@
 
 mod authority;
 mod fault;
+pub mod laws;
 mod lists;
 mod names;
 mod packed;
 mod reader;
+mod writer;
 
 pub use authority::{Authority, KeyWeight, Level, LevelWeight, WaitWeight};
 pub use fault::{PackFault, ReadFault};
 pub use lists::{Bytes, Seq};
 pub use names::{Key256, Name, TableKey};
-pub use packed::{Packed, read_seq, read_whole};
+pub use packed::{Packed, read_seq, read_whole, write_seq, write_whole};
 pub use reader::PackReader;
+pub use writer::PackWriter;
 
 /// A SHA-256 digest.
 pub type Digest = [u8; 32];
