@@ -84,3 +84,19 @@ pub fn write_whole<T: Packed>(alloc: Global, value: &T) -> Result<Bytes, AllocEr
     value.write(&mut writer)?;
     Ok(writer.into_bytes())
 }
+
+impl Packed for Bytes {
+    ghost use Rattle.ante_pack.specs.Forms.{string};
+
+    ghost form = { string };
+
+    fn read(alloc: Global, reader: &mut PackReader<'_>) -> Result<Bytes, ReadFault> {
+        let bytes = reader.bytes()?;
+        Ok(Bytes::from_slice(alloc, bytes)?)
+    }
+
+    #[tactic(auto, unfolding(crate::specs::Forms::string))]
+    fn write(&self, writer: &mut PackWriter) -> Result<(), AllocError> {
+        writer.put_bytes(self.as_slice())
+    }
+}
