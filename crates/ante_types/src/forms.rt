@@ -87,7 +87,7 @@ impl Packed for Transaction {
         })
     }
 
-    #[tactic(auto, using(ante_pack::proofs::Pieces::onto), unfolding(crate::specs::Chain::transaction))]
+    #[tactic(auto, unfolding(crate::specs::Chain::transaction))]
     fn write(&self, writer: &mut PackWriter) -> Result<(), AllocError> {
         writer.put_u32(self.expiration)?;
         writer.put_u16(self.ref_block_num)?;
@@ -97,7 +97,8 @@ impl Packed for Transaction {
         writer.put_varuint(self.delay_sec)?;
         write_seq(writer, &self.context_free_actions)?;
         write_seq(writer, &self.actions)?;
-        write_seq(writer, &self.extensions)
+        write_seq(writer, &self.extensions)?;
+        Ok(())
     }
 }
 

@@ -12,4 +12,4 @@ pub use chain::{
 pub use forms::{
     read_action, read_block, read_genesis, read_trx, write_block, write_genesis, write_trx,
 };
-pub use ids::{block_num, signing_digest, trx_id, trx_root};
+pub use ids::{block_id, block_num, signing_digest, trx_id, trx_root};
