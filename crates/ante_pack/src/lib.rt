@@ -11,7 +11,7 @@ mod reader;
 pub use authority::{Authority, KeyWeight, Level, LevelWeight, WaitWeight};
 pub use fault::{PackFault, ReadFault};
 pub use lists::{Bytes, Seq};
-pub use names::{Key256, Name, TableKey};
+pub use names::{Key256, Name, NameFault, TableKey, name_from_text, name_text, names_are_numbers};
 pub use packed::{Packed, read_seq, read_whole};
 pub use reader::PackReader;
 
