@@ -1,8 +1,8 @@
 -- Names as numbers: the places of a text as digits.
-use Rattle.std.proofs.Common.{◌≡◌, ◌≢◌, ℕ, zero, suc, ◌+◌, ◌-◌, ◌*◌, ◌/◌, ◌%◌, ◌^◌, ◌<◌, ◌≤◌, Bool, true, false, cond, not, ◌&&◌, ltb, leb, eqb, List, [], ◌∷◌, ◌++◌, map, length, take, drop, get_or, Result, Ok, Err, refl, sym, ap, ◌∙◌, subst, arith, eqb-true, ltb-true, lt-ltb, le-ltb, le-leb, leb-true, eq-eqb, ne_eqb, add-suc, add-one, true≢false, below_more}
-use Rattle.std.proofs.lemmas.Bool.{lt-leb}
-use Rattle.std.proofs.lemmas.Grind.{same_number_lists}
-use Rattle.std.specs.List.{position_or_len, prefix_len, suffix_len, range_with_len, list_all}
+use Rattle.std.proofs.Common.{◌≡◌, ◌≢◌, ℕ, zero, suc, ◌+◌, ◌-◌, ◌*◌, ◌/◌, ◌%◌, ◌^◌, ◌<◌, ◌≤◌, Bool, true, false, cond, not, ◌&&◌, ltb, leb, eqb, List, [], ◌∷◌, ◌++◌, map, length, take, drop, get_or, Option, Some, None, Result, Ok, Err, refl, sym, ap, ◌∙◌, subst, arith, eqb-true, ltb-true, ltb-false, lt-ltb, le-ltb, le-leb, leb-true, eq-eqb, ne_eqb, add-suc, add-one, true≢false, below_more, set, get_or-set_other, get_or-set_same, length-set}
+use Rattle.std.proofs.lemmas.Bool.{lt-leb, eqb-false}
+use Rattle.std.proofs.lemmas.Grind.{same_number_lists, get_or-set_at}
+use Rattle.std.specs.List.{position, position_or_len, prefix_len, suffix_len, range_with_len, list_all}
 use Rattle.std.proofs.lemmas.List.{same_lists, take_more, take_all, length-take-le, get_or-take}
 use Rattle.std.proofs.lemmas.List.FromFn.{length-range_with_len, get_or-range_with_len, length-map-range_with_len, get_or-map-range_with_len}
 use Rattle.std.proofs.lemmas.List.Sums.{prefix_len-le-length, prefix_len_is, prefix_len_stops, AllPass-from_list_all, suffix_len_is, suffix_len-take_yes, suffix_len-take_no, suffix_len-le-length}
@@ -90,7 +90,7 @@ EndsWell-tail : (c : ℕ) (text : List ℕ) → EndsWell (c ∷ text) → EndsWe
 EndsWell-tail c [] h = tt
 EndsWell-tail c (d ∷ text) h = h
 
-top-positive : (place : ℕ) → 0 < top place
+pub top-positive : (place : ℕ) → 0 < top place
 top-positive place = elim (ltb place 13) as (λ b. ltb place 13 ≡ b → 0 < cond b (choices place * worth place) 1) [ true ↦ inside | false ↦ λ e. omega arith ] refl
   where
     inside : ltb place 13 ≡ true → 0 < choices place * worth place
@@ -285,22 +285,6 @@ some_text n lt =
       subst (λ (c : ℕ). number_of c < choices k) (sym at) (digit-fits_place n k))
     (number_from-digits n 13 0 refl ∙ whole)
 
--- what thirteen characters are shown as, where the length is that of the text without the dots at its end
-pub shown : (text : List ℕ) (n len : ℕ) → length text ≡ 13 → len ≤ 13 → ((k : ℕ) → k < 13 → get_or text k 0 ≡ character_at n k) → ((k : ℕ) → len ≤ k → k < 13 → get_or text k 0 ≡ 46) → (0 < len → get_or text (len - 1) 0 ≢ 46)
-    → take len text ≡ name_text n
-unfolding name_text
-shown text n len thirteen within written dots last =
-    let all : List ℕ = map (character_at n) (range_with_len 0 13) in
-    let same : text ≡ map (character_at n) (range_with_len 0 13) = same_number_lists text (map (character_at n) (range_with_len 0 13)) (thirteen ∙ sym (length-map-range_with_len (character_at n) 0 13)) (λ k lt.
-      let small : k < 13 = omega arith in
-      let e : 0 + k ≡ k = omega arith in
-      written k small ∙ sym (get_or-map-range_with_len (character_at n) 0 13 k k 0 small e)) in
-    let tail : suffix_len (λ c. eqb c 46) text ≡ length text - len = suffix_len_is (λ c. eqb c 46) text len 0 (omega arith)
-      (λ k le lt. eq-eqb (get_or text k 0) 46 (dots k le (omega arith)))
-      (λ some. ne_eqb (get_or text (len - 1) 0) 46 (last some)) in
-    let e : len ≡ length text - suffix_len (λ c. eqb c 46) text = omega arith in
-    ap (λ k. take k text) e ∙ ap without_dots same
-
 -- ---- reading
 
 letters_before : (text : List ℕ) (m : ℕ) → m ≤ length text → ((k : ℕ) → k < m → number_of (get_or text k 0) < 32) → (m < length text → number_of (get_or text m 0) ≡ 32) → first_bad text ≡ m
@@ -320,14 +304,19 @@ reads-bad text at short lt letters bad =
     let first : first_bad text ≡ at = letters_before text at (omega arith) (λ k less. omega (arith, letters k less, choices-most k)) (λ _. bad) in
     rw (le-ltb 13 (length text) short, first, lt-ltb at (length text) lt) refl
 
-pub reads-last : (text : List ℕ) → length text ≡ 13 → ((k : ℕ) → k < 12 → number_of (get_or text k 0) < choices k) → number_of (get_or text 12 0) < 32 → 15 < number_of (get_or text 12 0) → name_of_text text ≡ Err BadLast
+pub reads-last : (text : List ℕ) (at : ℕ) → length text ≤ 13 → at < length text → ((k : ℕ) → k < at → number_of (get_or text k 0) < choices k) → number_of (get_or text at 0) < 32 → choices at ≤ number_of (get_or text at 0) → name_of_text text ≡ Err BadLast
 unfolding name_of_text
-reads-last text thirteen letters letter late =
-    let all : (k : ℕ) → k < 13 → number_of (get_or text k 0) < 32 = below_more (λ k. number_of (get_or text k 0) < 32) 12 (λ k less. omega (arith, letters k less, choices-most k)) letter in
+reads-last text at short lt letters letter late =
+    let twelve : at ≡ 12 = is_twelfth (ltb at 12) refl (omega arith) in
+    let all : (k : ℕ) → k < at + 1 → number_of (get_or text k 0) < 32 = below_more (λ k. number_of (get_or text k 0) < 32) at (λ k less. omega (arith, letters k less, choices-most k)) letter in
     let first : first_bad text ≡ length text = letters_before text (length text) (omega arith) (λ k less. all k (omega arith)) (λ less. absurd (omega arith)) in
-    let short : length text ≤ 13 = omega arith in
-    let twelve : 12 < length text = omega arith in
-    rw (le-ltb 13 (length text) short, first, le-ltb (length text) (length text) (omega arith), lt-ltb 12 (length text) twelve, le-leb 16 (number_of (get_or text 12 0)) late) refl
+    let long : 12 < length text = omega arith in
+    let sixteen : 16 ≤ number_of (get_or text 12 0) = subst (λ (p : ℕ). choices p ≤ number_of (get_or text p 0)) twelve late in
+    rw (le-ltb 13 (length text) short, first, le-ltb (length text) (length text) (omega arith), lt-ltb 12 (length text) long, le-leb 16 (number_of (get_or text 12 0)) sixteen) refl
+    where
+      is_twelfth : (b : Bool) → ltb at 12 ≡ b → cond b 32 16 < 32 → at ≡ 12
+      is_twelfth true e less = absurd (omega arith)
+      is_twelfth false e less = omega (arith, ltb-false at 12 e)
 
 only_after : (a b : Bool) → (a ≡ true → b ≡ false) → (a && b) ≡ false
 only_after true b h = h refl
@@ -350,3 +339,94 @@ room-more number place digit lt small room =
     let next : top (place + 1) ≡ worth place = top-next place lt in
     let le : (digit + 1) * worth place ≤ choices place * worth place = mul-le-mul_right (worth place) (omega arith) in
     omega arith
+
+-- what is found in the alphabet
+pub found : (c n : ℕ) → Some n ≡ position (λ x. eqb x c) alphabet → (number_of c ≡ n) × (n < 32)
+unfolding number_of
+found c n e = by (ltb (number_of c) 32) refl e
+  where
+    by : (b : Bool) → ltb (number_of c) 32 ≡ b → Some n ≡ cond b (Some (number_of c)) None → (number_of c ≡ n) × (n < 32)
+    by true test e =
+        let same : number_of c ≡ n = cc in
+        (same, omega (arith, ltb-true (number_of c) 32 test))
+    by false test e = absurd (cc)
+
+pub not_found : (c : ℕ) → None ≡ position (λ x. eqb x c) alphabet → number_of c ≡ 32
+unfolding number_of
+not_found c e = by (ltb (number_of c) 32) refl (sym e)
+  where
+    by : (b : Bool) → ltb (number_of c) 32 ≡ b → cond b (Some (number_of c)) None ≡ None → number_of c ≡ 32
+    by true test e = absurd (cc)
+    by false test e = omega (arith, ltb-false (number_of c) 32 test, number_of-most c)
+
+-- the shift adds a character
+pub shifted : (number place digit shift : ℕ) → place < 13 → digit < choices place → number + top place ≤ 2 ^ 64 → 2 ^ shift ≡ worth place → digit * 2 ^ shift % 2 ^ 64 ≡ digit * worth place
+shifted number place digit shift lt small room e =
+    let more : number + digit * worth place + top (place + 1) ≤ 2 ^ 64 = room-more number place digit lt small room in
+    let pos : 0 < top (place + 1) = top-positive (place + 1) in
+    let whole : digit * worth place % 2 ^ 64 ≡ digit * worth place = omega arith in
+    ap (λ w. digit * w % 2 ^ 64) e ∙ whole
+
+-- the first places of a number's text are there, and the rest are dots; the length is that without dots at the end
+pub record IsShown (n place len : ℕ) (text : List ℕ) : Type 0 where
+  pub thirteen : length text ≡ 13
+  pub within : len ≤ place
+  pub written : (k : ℕ) → k < place → get_or text k 0 ≡ character_at n k
+  pub dots : (k : ℕ) → len ≤ k → k < 13 → get_or text k 0 ≡ 46
+  pub last : 0 < len → get_or text (len - 1) 0 ≢ 46
+
+no_dot_at : (n place : ℕ) → n / worth place % choices place ≢ 0 → character_at n place ≢ 46
+no_dot_at n place some is = some (sym (number_of-alphabet (n / worth place % choices place) (digit-letter n place)) ∙ ap number_of is ∙ number_of-dot)
+
+written-more : (n place len : ℕ) (text : List ℕ) → place < 13 → IsShown n place len text → (k : ℕ) → k < place + 1 → get_or (set text place (character_at n place)) k 0 ≡ character_at n k
+written-more n place len text lt is =
+    below_more (λ k. get_or (set text place (character_at n place)) k 0 ≡ character_at n k) place
+    (λ k less. let ne : k ≢ place = omega arith in rw get_or-set_other (is.written k less))
+    (let inside : place < length text = omega (arith, is.thirteen) in rw get_or-set_same refl)
+
+pub shown-more : (n place len : ℕ) (text : List ℕ) → place < 13 → IsShown n place len text → n / worth place % choices place ≢ 0 → IsShown n (place + 1) (place + 1) (set text place (character_at n place))
+shown-more n place len text lt is some =
+    let inside : place < length text = omega (arith, is.thirteen) in
+    record {
+      thirteen = length-set text place (character_at n place) ∙ is.thirteen;
+      within = omega arith;
+      written = written-more n place len text lt is;
+      dots = λ k le less. let ne : k ≢ place = omega arith in rw get_or-set_other (is.dots k (omega (arith, is.within)) less);
+      last = λ _.
+        let e : place ≡ place + 1 - 1 = omega arith in
+        subst (λ (k : ℕ). get_or (set text place (character_at n place)) k 0 ≢ 46) e (rw get_or-set_same (no_dot_at n place some));
+    }
+
+dot-set : (text : List ℕ) (place k c : ℕ) → place < length text → c ≡ 46 → get_or text k 0 ≡ 46 → (b : Bool) → eqb k place ≡ b → get_or (set text place c) k 0 ≡ 46
+dot-set text place k c inside dot old true e = get_or-set_at text place k c 0 (eqb-true k place e) inside ∙ dot
+dot-set text place k c inside dot old false e = get_or-set_other text place k c 0 (eqb-false k place e) ∙ old
+
+pub shown-dot : (n place len : ℕ) (text : List ℕ) → place < 13 → IsShown n place len text → n / worth place % choices place ≡ 0 → IsShown n (place + 1) len (set text place (character_at n place))
+shown-dot n place len text lt is none =
+    let inside : place < length text = omega (arith, is.thirteen) in
+    let dot : character_at n place ≡ 46 = ap (λ d. get_or alphabet d 0) none in
+    record {
+      thirteen = length-set text place (character_at n place) ∙ is.thirteen;
+      within = omega (arith, is.within);
+      written = written-more n place len text lt is;
+      dots = λ k le less. dot-set text place k (character_at n place) inside dot (is.dots k le less) (eqb k place) refl;
+      last = λ some.
+        let ne : len - 1 ≢ place = omega (arith, is.within) in
+        rw get_or-set_other (is.last some);
+    }
+
+pub shown-all : (n len : ℕ) (text : List ℕ) → IsShown n 13 len text → take len text ≡ name_text n
+unfolding name_text
+shown-all n len text is =
+    let thirteen : length text ≡ 13 = is.thirteen in
+    let within : len ≤ 13 = is.within in
+    let all : List ℕ = map (character_at n) (range_with_len 0 13) in
+    let same : text ≡ map (character_at n) (range_with_len 0 13) = same_number_lists text (map (character_at n) (range_with_len 0 13)) (thirteen ∙ sym (length-map-range_with_len (character_at n) 0 13)) (λ k lt.
+      let small : k < 13 = omega arith in
+      let e : 0 + k ≡ k = omega arith in
+      is.written k small ∙ sym (get_or-map-range_with_len (character_at n) 0 13 k k 0 small e)) in
+    let tail : suffix_len (λ c. eqb c 46) text ≡ length text - len = suffix_len_is (λ c. eqb c 46) text len 0 (omega arith)
+      (λ k le lt. eq-eqb (get_or text k 0) 46 (is.dots k le (omega arith)))
+      (λ some. ne_eqb (get_or text (len - 1) 0) 46 (is.last some)) in
+    let e : len ≡ length text - suffix_len (λ c. eqb c 46) text = omega arith in
+    ap (λ k. take k text) e ∙ ap without_dots same

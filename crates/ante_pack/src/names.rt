@@ -49,7 +49,7 @@ pub fn name_from_text(text: &str) -> Result<Name, NameFault>
         let Some(symbol) = symbol_of(*byte) else {
             return Err(NameFault::BadChar { at });
         };
-        if at == 12 && symbol > 15 {
+        if symbol >= choices_at(at) {
             return Err(NameFault::BadLast);
         }
         number += (symbol as u64) << shift_of(at);
@@ -66,9 +66,9 @@ pub fn name_text(name: Name) -> ([u8; 13], usize)
 {
     let mut text = [b'.'; 13];
     let mut len = 0;
-    for (place, character) in text.iter_mut().enumerate() {
+    for place in 0..text.len() {
         let symbol = symbol_at(name.0, place);
-        *character = ALPHABET[symbol];
+        text[place] = ALPHABET[symbol];
         if symbol != 0 {
             len = place + 1;
         }
@@ -94,8 +94,15 @@ fn symbol_at(number: u64, place: usize) -> usize
     requires { place < 13 }
     ensures { result ≡ number / worth place % choices place }
 {
-    let mask = if place < 12 { 31 } else { 15 };
-    ((number >> shift_of(place)) & mask) as usize
+    (number >> shift_of(place)) as usize % choices_at(place)
+}
+
+/// How many characters may stand at a place.
+fn choices_at(place: usize) -> usize
+    requires { place < 13 }
+    ensures { result ≡ choices place }
+{
+    if place < 12 { 32 } else { 16 }
 }
 
 /// How many bits stand below the character at a place.
