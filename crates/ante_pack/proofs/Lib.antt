@@ -1,4 +1,5 @@
 pub mod Items
+pub mod NameDigits
 pub mod Varuint
 pub mod Steps
 pub mod Codec

@@ -10,10 +10,12 @@ mod packed;
 mod reader;
 mod writer;
 
-pub use authority::{Authority, KeyWeight, Level, LevelWeight, WaitWeight};
+pub use authority::{
+    Authority, KeyWeight, Level, LevelWeight, WaitWeight, read_authority, write_authority,
+};
 pub use fault::{PackFault, ReadFault};
 pub use lists::{Bytes, Seq};
-pub use names::{Key256, Name, TableKey};
+pub use names::{Key256, Name, NameFault, TableKey, name_from_text, name_text, names_are_numbers};
 pub use packed::{Packed, read_seq, read_whole, write_seq, write_whole};
 pub use reader::PackReader;
 pub use writer::PackWriter;
