@@ -23,13 +23,16 @@ action_json t = object (
     ∷ member (codes "steps") (decimal t.steps)
     ∷ [])
 
-unfoldable pub failure_json : Option Failure → List ℕ
-failure_json None = codes "null"
-failure_json (Some f) = object (
+unfoldable pub failure_object : Failure → List ℕ
+failure_object f = object (
     member (codes "args") (array (failure_args f))
     ∷ member (codes "code") (decimal (failure_code f))
     ∷ member (codes "name") (quoted (failure_name f))
     ∷ [])
+
+abbrev pub failure_json : Option Failure → List ℕ
+failure_json None = codes "null"
+failure_json (Some f) = failure_object f
 
 unfoldable pub actions_json : List ActionTrace → List ℕ
 actions_json actions = array (map action_json actions)

@@ -1,15 +1,27 @@
 //! The data of the chain: transactions, blocks and genesis with their packed forms and ids, and traces with their text.
 #![tactic(auto)]
 
+mod arguments;
 mod chain;
+mod context;
+mod failure;
+mod failure_words;
 mod forms;
 mod ids;
+mod json;
+mod rendering;
+mod trace;
 
 pub use chain::{
     Action, Block, BlockInfo, Extension, Genesis, GenesisAccount, Head, Header, Receipt,
     Transaction,
 };
+pub use context::{Mode, RunContext};
+pub use failure::{Failure, Label};
+pub use failure_words::{failure_code, failure_name};
 pub use forms::{
     read_action, read_block, read_genesis, read_trx, write_block, write_genesis, write_trx,
 };
 pub use ids::{block_id, block_num, signing_digest, trx_id, trx_root};
+pub use rendering::trace_text;
+pub use trace::{ActionTrace, Trace};
