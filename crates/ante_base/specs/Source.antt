@@ -18,11 +18,6 @@ Reads before after buffer (Bytes n) = Consumes before after (take n buffer)
 Reads before after buffer End = Keeps before after × IsAtEnd after
 Reads before after buffer Failed = Keeps before after
 
--- The bytes are all that was left, and the source has ended.
-pub record TakesAll (before after : Option (List ℕ)) (bytes : List ℕ) : Type 0 where
-  pub front : Consumes before after bytes
-  pub ended : IsAtEnd after
-
 -- At most so many bytes were taken from the front of what was left.
 abbrev pub TakesAtMost : ℕ → Option (List ℕ) → Option (List ℕ) → Type 0
 TakesAtMost most before after = (bytes : List ℕ) × (length bytes ≤ most) × Consumes before after bytes

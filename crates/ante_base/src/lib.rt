@@ -11,4 +11,4 @@ pub use memory::{MemSink, MemSource};
 pub use sink::{Put, Sink};
 pub use source::{Got, Source};
 pub use streams::{ReadSource, WriteSink};
-pub use transfer::{SinkFailed, Stopped, read_up_to, write_all};
+pub use transfer::{Front, SinkFailed, Stopped, read_front, write_all};

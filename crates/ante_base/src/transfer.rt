@@ -1,7 +1,7 @@
-ghost use Rattle.std.specs.Prelude.{◌≡◌, ℕ, ◌+◌, ◌^◌, ◌<◌, ◌≤◌, length, OnOk, OnErr, IfOk, IfSome, min};
+ghost use Rattle.std.specs.Prelude.{◌≡◌, ℕ, ◌≤◌, length, false, IsTrue, OnOk, OnErr, IfOk, min};
 ghost use Rattle.ante_base.specs.Faults.{Rose};
-ghost use Rattle.ante_base.specs.Source.{TakesAll, TakesAtMost};
-ghost use Rattle.std.specs.Io.KnownBytes.{Appends};
+ghost use Rattle.ante_base.specs.Source.{TakesAtMost};
+ghost use Rattle.std.specs.Io.KnownBytes.{Appends, Consumes, IsAtEnd};
 ghost use Rattle.ante_base.specs.Sink.{AppendsFront};
 
 use crate::sink::{Put, Sink};
@@ -33,14 +33,19 @@ pub fn write_all<S: Sink>(out: &mut S, bytes: &[u8]) -> Result<(), SinkFailed>
     Ok(())
 }
 
-/// Why an input wasn't read to its end.
+/// Why reading stopped.
 #[derive(Clone, Copy, Debug, PartialEq, Eq)]
 pub enum Stopped {
     OutOfMemory,
     /// A read failed.
     Failed,
-    /// The input is longer than was asked for.
-    Long,
+}
+
+/// The front of an input, and whether the input ended there.
+#[derive(Debug, Drop)]
+pub struct Front {
+    pub bytes: Vec<u8>,
+    pub ended: bool,
 }
 
 /// How many of the bytes that are still wanted one read asks for.
@@ -50,31 +55,34 @@ fn piece_len(wanted: usize) -> usize
     if wanted < PIECE { wanted } else { PIECE }
 }
 
-/// Reads the whole input where it has at most `most` bytes, and else one byte more than that.
-pub fn read_up_to<R: Source>(alloc: Global, source: &mut R, most: usize) -> Result<Vec<u8>, Stopped>
-    requires { most < 2 ^ 48 }
-    ensures whole { IfOk result (λ all. TakesAll (R.left source.old) (R.left source.new) all.items) }
-    ensures within { IfOk result (λ all. length all.items ≤ most) }
-    ensures long { result ≡ Err Stopped.Long → IfSome (R.left source.old) (λ input. most < length input) }
+/// Reads until the input ends or `most` bytes were read.
+pub fn read_front<R: Source>(alloc: Global, source: &mut R, most: usize) -> Result<Front, Stopped>
+    ensures taken { IfOk result (λ front. Consumes (R.left source.old) (R.left source.new) front.bytes.items) }
+    ensures within { IfOk result (λ front. length front.bytes.items ≤ most) }
+    ensures ended { IfOk result (λ front. IsTrue front.ended → IsAtEnd (R.left source.new)) }
+    ensures cut { IfOk result (λ front. front.ended ≡ false → length front.bytes.items ≡ most) }
     ensures failed { result ≡ Err Stopped.Failed → Rose (R.faults source.old) (R.faults source.new) }
-    ensures bounded { TakesAtMost (most + 1) (R.left source.old) (R.left source.new) }
+    ensures bounded { TakesAtMost most (R.left source.old) (R.left source.new) }
     ensures later { R.faults source.old ≤ R.faults source.new }
 {
-    let mut all = Vec::new(alloc);
+    let mut bytes = Vec::new(alloc);
     let mut piece = [0; PIECE];
-    while all.len() <= most {
-        let room = piece_len(most + 1 - all.len());
+    while bytes.len() < most {
+        let room = piece_len(most - bytes.len());
         let window = &mut piece[..room];
         match source.read(window) {
             Got::Bytes(count) => {
                 let (front, _) = window.split_at(count);
-                if all.extend_from_slice(front).is_err() {
+                if bytes.extend_from_slice(front).is_err() {
                     return Err(Stopped::OutOfMemory);
                 }
             }
-            Got::End => return Ok(all),
+            Got::End => return Ok(Front { bytes, ended: true }),
             Got::Failed => return Err(Stopped::Failed),
         }
     }
-    Err(Stopped::Long)
+    Ok(Front {
+        bytes,
+        ended: false,
+    })
 }

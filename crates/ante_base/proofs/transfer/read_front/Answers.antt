@@ -1,13 +1,13 @@
-use Rattle.std.proofs.Common.{◌+◌, ◌++◌, ◌≤◌, take, length, arith, length-append, length-take}
+use Rattle.std.proofs.Common.{◌++◌, take, length, arith, length-append, length-take}
 use Rattle.ante_base.proofs.Known.{Consumes-then}
-use Rattle.ante_base.proofs.transfer.read_up_to.Goals as goal
+use Rattle.ante_base.proofs.transfer.read_front.Goals as goal
 
 pub returns-then-is_err-clause-bounded : goal.returns-then-is_err-clause-bounded
 returns-then-is_err-clause-bounded g c =
     let piece = take c.in-Bytes.count c.read.new.into in
-    let h = c.piece_len-room.ensures in
+    let room = c.piece_len-room.ensures in
     let k = c.in-Bytes.ensures.count in (
-      c.loop-piece.all.items ++ piece,
-      simp (length-append, length-take) (omega (arith, h, simp length-take at k.1)),
+      c.loop-piece.bytes.items ++ piece,
+      simp (length-append, length-take) (omega (arith, room, simp length-take at k.1)),
       Consumes-then _ _ _ _ _ c.loop-piece.invariant.front c.in-Bytes.ensures.bytes,
     )
