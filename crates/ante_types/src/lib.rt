@@ -2,6 +2,7 @@
 #![tactic(auto)]
 
 mod arguments;
+mod builtin;
 mod chain;
 mod context;
 mod failure;
@@ -12,6 +13,7 @@ mod json;
 mod rendering;
 mod trace;
 
+pub use builtin::{EOSIO, builtin_head, builtin_packed};
 pub use chain::{
     Action, Block, BlockInfo, Extension, Genesis, GenesisAccount, Head, Header, Receipt,
     Transaction,
