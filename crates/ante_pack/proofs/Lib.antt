@@ -1,3 +1,5 @@
 pub mod Items
 pub mod NameDigits
+pub mod NameReading
+pub mod NameTexts
 pub mod Varuint
