@@ -3,3 +3,9 @@ pub mod NameDigits
 pub mod NameReading
 pub mod NameTexts
 pub mod Varuint
+pub mod Steps
+pub mod Codec
+pub mod Repeated
+pub mod Values
+pub mod Consequences
+pub mod Pieces

@@ -1,6 +1,6 @@
 -- Packed forms. A form of a type says how its values are packed: the one spelling of each value, which values have a
 -- spelling, and what is read from the front of some bytes, with the first fault and its place.
-use Rattle.std.specs.Prelude.{◌≡◌, ℕ, zero, suc, ◌+◌, ◌-◌, ◌*◌, ◌/◌, ◌%◌, ◌^◌, ◌<◌, ◌≤◌, List, [], ◌∷◌, ◌++◌, length, take, drop, Result, Ok, Err, MatchResult, nat_lt, ◌==◌, if◌then◌else◌}
+use Rattle.std.specs.Prelude.{◌≡◌, ℕ, zero, suc, ◌+◌, ◌-◌, ◌*◌, ◌/◌, ◌%◌, ◌^◌, ◌<◌, ◌≤◌, List, [], ◌∷◌, ◌++◌, length, take, drop, Result, Ok, Err, slice_index, IfOk, IfErr, OnErr, nat_lt, ◌==◌, if◌then◌else◌}
 use Rattle.std.specs.Int.{Width, w8, w16, w32, w64, byte_len, from_le_bytes, to_le_bytes}
 use Rattle.std.specs.List.{flat_map, AllByRecursion}
 use Rattle.ante_pack.specs.declared.fault.PackFault.{PackFault}
@@ -106,6 +106,10 @@ list_of item = record {
   read = λ c. varuint.read c >>= λ n. items_at item.read n.0 n.1;
 }
 
+-- each item is a byte
+abbrev pub IsBytes : List ℕ → Type 0
+IsBytes bytes = (i : ℕ) → slice_index bytes i < 256
+
 -- ---- what packs to what
 
 -- The value has a spelling, and the bytes are that spelling.
@@ -144,3 +148,21 @@ abbrev pub IsWhole : {X : Type 0} → Result X ReadFault → Result X PackFault 
 IsWhole (Ok x) read = read ≡ Ok x
 IsWhole (Err faults.OutOfMemory) read = Unit {0}
 IsWhole (Err (faults.Pack fault)) read = read ≡ Err fault
+
+-- A call that reads all the bytes as one value: the value that it answers packs to the bytes; a value that packs to the
+-- bytes is answered, unless memory runs out; and a fault is the first one.
+pub record ReadsWhole {A : Type 0} (form : Form A) (bytes : List ℕ) (result : Result A ReadFault) : Type 0 where
+  pub found : IfOk result (λ value. Packs form value bytes)
+  pub only : (value : A) → Packs form value bytes → IsWhole result (Ok value)
+  pub fault : IsWhole result (whole form bytes)
+
+-- The same at a reader's place, which is where the value ends, or after a refusal as before.
+pub record ReadsAt {A : Type 0} (form : Form A) (old new : Cursor) (result : Result A ReadFault) : Type 0 where
+  pub found : IfOk result (λ value. form.Fits value × (old.rest ≡ form.spell value ++ new.rest) × (new.at ≡ old.at + length (form.spell value)))
+  pub only : (value : A) (rest : List ℕ) → form.Fits value → old.rest ≡ form.spell value ++ rest → IsWhole result (Ok value)
+  pub fault : IfErr result (λ e. IsWhole {X = A × Cursor} (Err e) (form.read old))
+  pub stays : OnErr result (new ≡ old)
+
+-- No spelling of a value begins another spelling of the same type, and each value has one spelling.
+abbrev pub HasOneSpelling : {A : Type 0} → Form A → Type 0
+HasOneSpelling {A} form = (a b : A) (x y : List ℕ) → form.Fits a → form.Fits b → form.spell a ++ x ≡ form.spell b ++ y → (a ≡ b) × (x ≡ y)

@@ -1,7 +1,7 @@
 ghost use Rattle.std.specs.Prelude.{◌≡◌, ℕ, ◌<◌, ◌≤◌, ◌^◌, length, drop, Result, Ok, Err};
 ghost use Rattle.std.specs.Prelude.{◌-◌, IfOk, nat_lt, if◌then◌else◌};
 ghost use Rattle.ante_pack.specs.declared.fault.PackFault.TheVariants.{LongVaruint};
-ghost use Rattle.ante_pack.specs.Forms.{Gives, VaruintGives, Bounded, bytes_at, end_of, varuint, string, varuint_within};
+ghost use Rattle.ante_pack.specs.Forms.{Gives, IsBytes, VaruintGives, Bounded, bytes_at, end_of, varuint, string, varuint_within};
 ghost use Rattle.ante_pack.specs.Packed as forms;
 
 use crate::fault::PackFault;
@@ -18,13 +18,13 @@ pub struct PackReader<'a> {
 
 impl<'a> Model for PackReader<'a> {
     ghost use Rattle.std.specs.Prelude.{◌≤◌, length, drop};
-    ghost use Rattle.ante_pack.specs.Forms.{Cursor};
+    ghost use Rattle.ante_pack.specs.Forms.{Cursor, IsBytes};
 
     ghost Value = { Cursor };
 
     ghost view = { λ r. record { at = r.at; rest = drop r.at r.bytes.now } };
 
-    ghost invariant = { λ r. r.at ≤ length r.bytes.now };
+    ghost invariant = { λ r. (r.at ≤ length r.bytes.now) × IsBytes r.bytes.now };
 }
 
 impl<'a> PackReader<'a> {
@@ -43,12 +43,11 @@ impl<'a> PackReader<'a> {
 
     /// A second reader at the same place.
     pub fn fork(&self) -> PackReader<'a>
-        ensures { result ≡ self.now }
+        ensures place { result ≡ self.now }
+        ensures bytes { IsBytes self.now.rest }
     {
-        PackReader {
-            bytes: self.bytes,
-            at: self.at,
-        }
+        let bytes = self.bytes;
+        PackReader { bytes, at: self.at }
     }
 
     fn take(&mut self, count: usize) -> Result<&'a [u8], PackFault>

@@ -1,13 +1,15 @@
-// A library with one function.
+//! The data of the chain: transactions, blocks and genesis with their packed forms and ids, and traces with their text.
 #![tactic(auto)]
 
-ghost use Rattle.std.specs.Prelude.{◌≡◌};
-ghost use Rattle.ante_types.specs.Echo.{echo_of};
+mod chain;
+mod forms;
+mod ids;
 
-// The `ensures` clause is the contract: what `echo` returns is `echo_of` of its argument, a definition
-// in `specs/Echo.antt`, which a caller's clause can cite too.
-pub fn echo(x: usize) -> usize
-    ensures { result ≡ echo_of x }
-{
-    x
-}
+pub use chain::{
+    Action, Block, BlockInfo, Extension, Genesis, GenesisAccount, Head, Header, Receipt,
+    Transaction,
+};
+pub use forms::{
+    read_action, read_block, read_genesis, read_trx, write_block, write_genesis, write_trx,
+};
+pub use ids::{block_id, block_num, signing_digest, trx_id, trx_root};
