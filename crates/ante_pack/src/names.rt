@@ -1,5 +1,5 @@
-ghost use Rattle.std.specs.Prelude.{◌≡◌, ℕ, ◌/◌, ◌%◌, ◌^◌, ◌<◌, ◌≤◌, take, length, slice_index, position, ◌==◌};
-ghost use Rattle.ante_pack.specs.Names.{IsNameText, NamesAreNumbers, alphabet, choices, name_of_text, number_of, worth};
+ghost use Rattle.std.specs.Prelude.{◌≡◌, ℕ, ◌/◌, ◌%◌, ◌^◌, ◌<◌, ◌≤◌, take, slice_index, position, ◌==◌};
+ghost use Rattle.ante_pack.specs.Names.{IsNameText, NamesAreNumbers, alphabet, choices, name_of_text, worth};
 ghost use Rattle.ante_pack.specs.Names as names;
 
 /// A name of an account, an action, a table or a permission, as its number: up to twelve characters of five bits each
