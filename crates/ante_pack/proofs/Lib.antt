@@ -1,5 +1,7 @@
 pub mod Items
 pub mod NameDigits
+pub mod NameReading
+pub mod NameTexts
 pub mod Varuint
 pub mod Steps
 pub mod Codec

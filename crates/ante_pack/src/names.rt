@@ -1,5 +1,5 @@
-ghost use Rattle.std.specs.Prelude.{◌≡◌, ℕ, ◌/◌, ◌%◌, ◌^◌, ◌<◌, ◌≤◌, take, length, slice_index, position, ◌==◌};
-ghost use Rattle.ante_pack.specs.Names.{IsNameText, NamesAreNumbers, alphabet, choices, name_of_text, number_of, worth};
+ghost use Rattle.std.specs.Prelude.{◌≡◌, ℕ, ◌/◌, ◌%◌, ◌^◌, ◌<◌, ◌≤◌, take, slice_index, position, ◌==◌};
+ghost use Rattle.ante_pack.specs.Names.{IsNameText, NamesAreNumbers, alphabet, choices, name_of_text, worth};
 ghost use Rattle.ante_pack.specs.Names as names;
 
 /// A name of an account, an action, a table or a permission, as its number: up to twelve characters of five bits each
@@ -49,7 +49,8 @@ pub fn name_from_text(text: &str) -> Result<Name, NameFault>
         let Some(symbol) = symbol_of(*byte) else {
             return Err(NameFault::BadChar { at });
         };
-        if symbol >= choices_at(at) {
+        let choices = choices_at(at);
+        if symbol >= choices {
             return Err(NameFault::BadLast);
         }
         number += (symbol as u64) << shift_of(at);
@@ -79,8 +80,7 @@ pub fn name_text(name: Name) -> ([u8; 13], usize)
 /// Each number has exactly one name text, which is read as that number. The proof is all that this is for.
 pub fn names_are_numbers()
     ensures { NamesAreNumbers }
-{
-}
+{}
 
 /// The number of a character of the alphabet.
 fn symbol_of(byte: u8) -> Option<usize>

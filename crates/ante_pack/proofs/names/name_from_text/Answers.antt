@@ -1,6 +1,7 @@
-use Rattle.std.proofs.Common.{◌≡◌, ℕ, ◌+◌, ◌*◌, ◌%◌, ◌^◌, ◌<◌, ◌≤◌, Ok, get_or, take, length, sym, ap, ◌∙◌, arith, take_all, below_more, subst}
+use Rattle.std.proofs.Common.{◌≡◌, ℕ, ◌+◌, ◌*◌, ◌%◌, ◌^◌, ◌<◌, ◌≤◌, Ok, get_or, take, sym, ap, ◌∙◌, arith, take_all, below_more, subst}
 use Rattle.ante_pack.specs.Names.{number_of, choices, worth, number_from, name_number, name_of_text}
-use Rattle.ante_pack.proofs.NameDigits.{reads-long, reads-bad, reads-last, reads-name, room-more, shifted, number_from-more, found, not_found, top, top-positive}
+use Rattle.ante_pack.proofs.NameDigits.{room-more, shifted, number_from-more, found, not_found, top, top-positive}
+use Rattle.ante_pack.proofs.NameReading.{reads-long, reads-bad, reads-last, reads-name}
 use Rattle.ante_pack.proofs.names.name_from_text.Goals as goal
 
 pub returns-then-bytes-gt13 : goal.returns-then-bytes-gt13
@@ -12,8 +13,8 @@ returns-in_default c =
     let none : number_of (get_or bytes c.loop-at.at 0) ≡ 32 = not_found (get_or bytes c.loop-at.at 0) (sym c.in_default.is ∙ c.symbol_of.ensures) in
     sym (reads-bad bytes c.loop-at.at c.if-bytes-gt13.false c.loop-at-test.true c.loop-at.invariant.letters none) ∙ ap name_of_text c.as_bytes-bytes.ensures.value
 
-pub returns-then-symbol-choices_at : goal.returns-then-symbol-choices_at
-returns-then-symbol-choices_at c =
+pub returns-then-symbol-choices : goal.returns-then-symbol-choices
+returns-then-symbol-choices c =
     let bytes = c.as_bytes-bytes.result.now in
     let both = found (get_or bytes c.loop-at.at 0) c.in-Some.symbol (sym c.in-Some.is ∙ c.symbol_of.ensures) in
     let letter : number_of (get_or bytes c.loop-at.at 0) ≡ c.in-Some.symbol = both.0 in
@@ -42,9 +43,9 @@ loop-at-preserved c =
     let part : digit * 2 ^ c.shift_of.result % 2 ^ 64 ≡ digit * worth place = shifted c.loop-at.number place digit c.shift_of.result lt small c.loop-at.invariant.room c.shift_of.ensures.worth in
     rw part (record {
       number =
-        ap (λ n. n + digit * worth place) c.loop-at.invariant.number
-        ∙ ap (λ d. number_from 0 (take place bytes) + d * worth place) (sym letter)
-        ∙ sym (number_from-more bytes place c.loop-at-test.true);
+          ap (λ n. n + digit * worth place) c.loop-at.invariant.number
+          ∙ ap (λ d. number_from 0 (take place bytes) + d * worth place) (sym letter)
+          ∙ sym (number_from-more bytes place c.loop-at-test.true);
       letters = below_more (λ k. number_of (get_or bytes k 0) < choices k) place c.loop-at.invariant.letters (subst (λ (n : ℕ). n < choices place) (sym letter) small);
       room = room-more c.loop-at.number place digit lt small c.loop-at.invariant.room;
     })

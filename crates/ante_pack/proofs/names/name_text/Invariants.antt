@@ -1,4 +1,4 @@
-use Rattle.ante_pack.proofs.NameDigits.{IsShown}
+use Rattle.ante_pack.proofs.NameTexts.{IsShown}
 use Rattle.ante_pack.proofs.names.name_text.Given as goal
 
 abbrev pub invariant-loop-place : goal.invariant-loop-place

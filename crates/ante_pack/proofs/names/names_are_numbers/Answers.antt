@@ -1,6 +1,5 @@
-use Rattle.std.proofs.Common.{◌≡◌}
-use Rattle.ante_pack.specs.Names.{NamesAreNumbers}
-use Rattle.ante_pack.proofs.NameDigits.{one_text, fits_word, some_text, reads_back, reads-long, reads-bad, reads-last, room-more}
+use Rattle.ante_pack.proofs.NameReading.{reads_back}
+use Rattle.ante_pack.proofs.NameTexts.{some_text, one_text, fits_word}
 use Rattle.ante_pack.proofs.names.names_are_numbers.Goals as goal
 
 pub returns : goal.returns

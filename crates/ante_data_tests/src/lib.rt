@@ -1,0 +1,5 @@
+//! Tables of cases for the forms of the chain's data.
+#![tactic(auto)]
+
+#[cfg(test)]
+mod names;
