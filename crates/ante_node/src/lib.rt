@@ -1,13 +1,13 @@
-// A library with one function.
+//! The top call of the node: what the program does with its words and its input.
 #![tactic(auto)]
 
-ghost use Rattle.std.specs.Prelude.{◌≡◌};
-ghost use Rattle.ante_node.specs.Echo.{echo_of};
+mod ask;
+mod fault;
+mod input;
+mod node;
+mod read_only;
+mod report;
+mod words;
 
-// The `ensures` clause is the contract: what `echo` returns is `echo_of` of its argument, a definition
-// in `specs/Echo.antt`, which a caller's clause can cite too.
-pub fn echo(x: usize) -> usize
-    ensures { result ≡ echo_of x }
-{
-    x
-}
+pub use fault::{InputFault, InputKind, NodeEnd, NodeFault};
+pub use node::run_node;

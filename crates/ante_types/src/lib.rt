@@ -10,6 +10,7 @@ mod failure_words;
 mod forms;
 mod ids;
 mod json;
+pub mod laws;
 mod rendering;
 mod trace;
 

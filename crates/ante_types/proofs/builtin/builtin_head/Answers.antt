@@ -1,9 +1,17 @@
-use Rattle.std.proofs.Common.{refl}
-use Rattle.ante_types.specs.Genesis.{builtin_genesis, genesis_head}
+use Rattle.std.proofs.Common.{◌≡◌, refl, ap, ◌∙◌, arith}
+use Rattle.sha2.specs.Sha256.{sha256}
+use Rattle.ante_pack.specs.Names.{number_of, name_number}
+use Rattle.ante_types.specs.Chain.{genesis}
+use Rattle.ante_types.specs.Ids.{block_num}
+use Rattle.ante_types.specs.Genesis.{builtin_genesis, genesis_header, genesis_head}
 use Rattle.ante_types.proofs.builtin.builtin_head.Goals as goal
 
 pub block_id-requires : goal.block_id-requires
-block_id-requires c = ?
+unfolding block_num
+block_id-requires c = omega arith
 
 pub returns : goal.returns
-returns c = ?
+unfolding genesis_head genesis_header builtin_genesis name_number number_of
+returns c =
+    let root : c.digest.result ≡ sha256 (genesis.spell builtin_genesis) = c.digest.ensures ∙ ap sha256 (c.as_slice.ensures ∙ c.builtin_packed.ensures) in
+    rw c.block_id.ensures (rw root refl)

@@ -1,0 +1,205 @@
+ghost use Rattle.std.specs.Prelude.{◌≡◌, ◌<◌, ◌^◌, length, IfOk};
+ghost use Rattle.std.specs.Prelude.{◌==◌};
+ghost use Rattle.std.specs.List.{list_any};
+ghost use Rattle.ante_pack.specs.Names.{name_number, name_text};
+ghost use Rattle.ante_types.specs.declared.failure.Failure.TheVariants.{Unsupported, WriteRefused};
+ghost use Rattle.std.specs.List.{position};
+ghost use Rattle.ante_node.specs.ReadOnly.{account_failure, check_failure, first_where, has_level, is_native, is_there, native_names, read_only, run_of, runs_from, unknown_account, write_refused};
+
+use crate::input::Asked;
+use ante_pack::{Bytes, Name, Seq, name_text};
+use ante_types::{Action, ActionTrace, EOSIO, Failure, Head, Label, Trace, Transaction, trx_id};
+use std::alloc::{AllocError, Global};
+
+/// More packed bytes than this are too big for a transaction.
+const SIZE_LIMIT: usize = 1_500_000;
+
+/// The actions that the system's account does itself: newaccount, setcode, setabi, updateauth, deleteauth, linkauth and
+/// unlinkauth.
+const NATIVE_NAMES: [u64; 7] = [
+    11148770977341390848,
+    14029427681804681216,
+    14029385431137648640,
+    15371467950649982976,
+    5378050746259030016,
+    10063015651234021376,
+    15340080295291076608,
+];
+
+#[tactic(auto, unfolding(ante_pack::specs::Names::name_number, ante_pack::specs::Names::number_of))]
+fn is_there(name: Name) -> bool
+    ensures { result ≡ is_there name }
+{
+    name.0 == EOSIO.0
+}
+
+#[tactic(auto, unfolding(ante_pack::specs::Names::name_number, ante_pack::specs::Names::number_of))]
+fn is_native_name(name: u64) -> bool
+    ensures { result ≡ list_any (λ text. name_number text == name) native_names }
+{
+    NATIVE_NAMES.contains(&name)
+}
+
+fn is_native(action: &Action) -> bool
+    ensures { result ≡ is_native action.now }
+{
+    if !is_there(action.account) {
+        return false;
+    }
+    is_native_name(action.name.0)
+}
+
+fn label(alloc: Global, text: &[u8]) -> Result<Label, AllocError>
+    ensures { IfOk result (λ l. l.0 ≡ text.now) }
+{
+    Ok(Label(Bytes::from_slice(alloc, text)?))
+}
+
+fn unsupported(alloc: Global, field: &[u8]) -> Result<Option<Failure>, AllocError>
+    ensures { IfOk result (λ f. f ≡ Some (Unsupported (record { 0 = field.now }))) }
+{
+    let field = label(alloc, field)?;
+    Ok(Some(Failure::Unsupported { field }))
+}
+
+/// The place of the first action that has a level.
+fn first_authorized(actions: &[Action]) -> Option<u32>
+    requires { length actions.now < 2 ^ 32 }
+    ensures { result ≡ position has_level actions.now }
+{
+    for (i, action) in actions.iter().enumerate() {
+        if action.authorization.len() > 0 {
+            return Some(i as u32);
+        }
+    }
+    None
+}
+
+/// The first account that isn't there.
+fn first_unknown(actions: &[Action]) -> Option<Name>
+    ensures { result ≡ first_where unknown_account actions.now }
+{
+    for action in actions {
+        if !is_there(action.account) {
+            return Some(action.account);
+        }
+    }
+    None
+}
+
+#[tactic(auto, unfolding(crate::specs::ReadOnly::account_failure))]
+fn account_failure(actions: &[Action]) -> Option<Failure>
+    requires { length actions.now < 2 ^ 32 }
+    ensures { result ≡ account_failure actions.now }
+{
+    match first_authorized(actions) {
+        Some(action) => Some(Failure::HasAuthorization { action }),
+        None => match first_unknown(actions) {
+            Some(name) => Some(Failure::UnknownAccount { name }),
+            None => None,
+        },
+    }
+}
+
+/// The first check that the transaction fails.
+#[tactic(auto, unfolding(crate::specs::ReadOnly::check_failure))]
+fn check_failure(
+    alloc: Global,
+    size: usize,
+    trx: &Transaction,
+) -> Result<Option<Failure>, AllocError>
+    requires { length trx.now.actions < 2 ^ 32 }
+    ensures { IfOk result (λ f. f ≡ check_failure size trx.now) }
+{
+    if trx.actions.len() == 0 {
+        return Ok(Some(Failure::NoAction));
+    }
+    if trx.context_free_actions.len() != 0 {
+        return unsupported(alloc, b"context_free_actions");
+    }
+    if trx.delay_sec != 0 {
+        return unsupported(alloc, b"delay_sec");
+    }
+    if trx.extensions.len() != 0 {
+        return unsupported(alloc, b"extensions");
+    }
+    if size > SIZE_LIMIT {
+        return Ok(Some(Failure::TooBig));
+    }
+    Ok(account_failure(trx.actions.as_slice()))
+}
+
+fn run_of(alloc: Global, ordinal: u32, action: &Action) -> Result<ActionTrace, AllocError>
+    ensures { IfOk result (λ run. run ≡ run_of ordinal action.now) }
+{
+    Ok(ActionTrace {
+        ordinal,
+        creator: 0,
+        receiver: action.account,
+        account: action.account,
+        name: action.name,
+        bytes: Bytes::from_slice(alloc, action.bytes.as_slice())?,
+        console: Bytes::new(alloc),
+        return_value: Bytes::new(alloc),
+        steps: 1,
+    })
+}
+
+/// What a native action is refused with.
+fn refusal(alloc: Global, name: Name) -> Result<Failure, AllocError>
+    ensures { IfOk result (λ f. f ≡ WriteRefused (record { 0 = name_text name.0 })) }
+{
+    let (text, len) = name_text(name);
+    let (front, _) = text.split_at(len);
+    let intrinsic = label(alloc, front)?;
+    Ok(Failure::WriteRefused { intrinsic })
+}
+
+/// Runs the actions in their order, up to the first that is native.
+fn run_actions(
+    alloc: Global,
+    actions: &[Action],
+) -> Result<(Seq<ActionTrace>, Option<Failure>), AllocError>
+    requires { length actions.now < 2 ^ 32 }
+    ensures runs { IfOk result (λ r. r.0 ≡ runs_from 1 actions.now) }
+    ensures failure { IfOk result (λ r. r.1 ≡ first_where write_refused actions.now) }
+{
+    let mut runs = Seq::new(alloc);
+    for (i, action) in actions.iter().enumerate() {
+        let run = run_of(alloc, i as u32 + 1, action)?;
+        runs.push(run)?;
+        if is_native(action) {
+            let refused = refusal(alloc, action.name)?;
+            return Ok((runs, Some(refused)));
+        }
+    }
+    Ok((runs, None))
+}
+
+/// The trace of a read-only transaction on the built-in genesis.
+#[tactic(auto, unfolding(crate::specs::ReadOnly::read_only))]
+pub fn read_only(
+    alloc: Global,
+    position: u64,
+    head: Head,
+    asked: &Asked,
+) -> Result<Trace, AllocError>
+    requires { length asked.now.trx.actions < 2 ^ 32 }
+    ensures { IfOk result (λ trace. trace ≡ read_only position head asked.now.packed asked.now.trx) }
+{
+    let packed = asked.packed.as_slice();
+    let id = trx_id(packed);
+    let failed = check_failure(alloc, packed.len(), &asked.trx)?;
+    let (actions, failure) = match failed {
+        Some(failure) => (Seq::new(alloc), Some(failure)),
+        None => run_actions(alloc, asked.trx.actions.as_slice())?,
+    };
+    Ok(Trace {
+        position,
+        head,
+        id,
+        failure,
+        steps: actions.len() as u64,
+        actions,
+    })
+}
