@@ -1,6 +1,6 @@
 -- What one read does, and what many reads have taken. What an object from outside holds is optional: none where it
 -- doesn't tell, and then nothing is said of it. The words Consumes, Keeps and IsAtEnd are std's, of its own readers.
-use Rattle.std.specs.Prelude.{◌≡◌, ℕ, ◌≤◌, List, length, take, Option}
+use Rattle.std.specs.Prelude.{ℕ, ◌≤◌, List, length, take, Option}
 use Rattle.std.specs.Io.KnownBytes.{Consumes, Keeps, IsAtEnd}
 use Rattle.ante_base.specs.declared.source.Got.{Got}
 use Rattle.ante_base.specs.declared.source.Got.TheVariants.{Bytes, End, Failed}

@@ -1,15 +1,15 @@
 -- What follows for every codec.
-use Rattle.std.proofs.Common.{◌≡◌, ℕ, ◌+◌, Bool, true, false, cond, eqb, List, [], ◌∷◌, ◌++◌, length, Result, Ok, Err, refl, sym, ap, subst, ◌∙◌, arith}
-use Rattle.std.specs.Prelude.{IfOk, IfErr, OnErr}
+use Rattle.std.proofs.Common.{◌≡◌, ℕ, ◌+◌, cond, eqb, List, [], ◌++◌, length, Result, Ok, Err, refl, sym, ap, subst, ◌∙◌}
+use Rattle.std.specs.Prelude.{IfOk}
 use Rattle.std.proofs.lemmas.Bool.{eqb-true}
 use Rattle.std.proofs.lemmas.List.{append-nil, nil_from_length}
 use Rattle.ante_pack.specs.declared.fault.PackFault.{PackFault}
 use Rattle.ante_pack.specs.declared.fault.PackFault.TheVariants.{Trailing}
 use Rattle.ante_pack.specs.declared.fault.ReadFault.{ReadFault}
 use Rattle.ante_pack.specs.declared.fault.ReadFault.TheVariants as faults
-use Rattle.ante_pack.specs.Forms.{Cursor, IsBytes, Form, ◌>>=◌, Packs, whole, IsWhole, ReadsWhole, ReadsTo, ReadsAt, HasOneSpelling}
+use Rattle.ante_pack.specs.Forms.{Cursor, IsBytes, Form, Packs, whole, IsWhole, ReadsWhole, ReadsTo, ReadsAt, HasOneSpelling}
 use Rattle.ante_pack.proofs.Steps.{bind_ok, guard_done, done, ok_is}
-use Rattle.ante_pack.proofs.Codec.{Takes, IsCodec}
+use Rattle.ante_pack.proofs.Codec.{IsCodec}
 
 pub one_spelling : {A : Type 0} (form : Form A) → IsCodec form → HasOneSpelling form
 one_spelling {A} form codec a b x y fa fb e =

@@ -1,13 +1,12 @@
 -- Varuints, strings, lists and keys are codecs.
-use Rattle.std.proofs.Common.{◌≡◌, ◌≢◌, ℕ, zero, suc, ◌+◌, ◌-◌, ◌*◌, ◌/◌, ◌%◌, ◌^◌, ◌<◌, ◌≤◌, Bool, true, false, cond, ltb, eqb, List, [], ◌∷◌, ◌++◌, length, get_or, take, drop, Result, Ok, Err, refl, sym, ap, subst, ◌∙◌, append_assoc, arith, inl, inr}
+use Rattle.std.proofs.Common.{◌≡◌, ◌≢◌, ℕ, zero, suc, ◌+◌, ◌-◌, ◌*◌, ◌/◌, ◌%◌, ◌^◌, ◌<◌, ◌≤◌, Bool, true, false, cond, ltb, eqb, List, [], ◌∷◌, ◌++◌, length, get_or, take, Ok, Err, refl, sym, ap, subst, ◌∙◌, append_assoc, arith, inl, inr}
 use Rattle.std.specs.List.{flat_map, AllByRecursion}
-use Rattle.std.proofs.lemmas.Bool.{cases_lt, ltb-false, ltb-true, lt-ltb, le-ltb, eqb-true, eqb-false, ne_eqb}
+use Rattle.std.proofs.lemmas.Bool.{cases_lt, ltb-false, ltb-true, lt-ltb, le-ltb, eqb-false, ne_eqb}
 use Rattle.std.proofs.lemmas.List.{length-append, take_more_set}
 use Rattle.std.proofs.Math.ListN.{set, length-set}
 use Rattle.std.proofs.lemmas.List.Concat.{flat_map-cons}
-use Rattle.ante_pack.specs.declared.fault.PackFault.{PackFault}
-use Rattle.ante_pack.specs.declared.fault.PackFault.TheVariants.{Short, LongVaruint, KeyKind}
-use Rattle.ante_pack.specs.Forms.{Cursor, IsBytes, advanced, Form, ◌>>=◌, bytes_at, varuint_bytes, varuint_within, varuint, string, items_at, list_of}
+use Rattle.ante_pack.specs.declared.fault.PackFault.TheVariants.{LongVaruint, KeyKind}
+use Rattle.ante_pack.specs.Forms.{Cursor, IsBytes, Form, ◌>>=◌, bytes_at, varuint_bytes, varuint_within, varuint, string, items_at, list_of}
 use Rattle.ante_pack.specs.Packed.{key}
 use Rattle.ante_pack.proofs.Steps.{bind_ok, guard_ok, guard_done, done, ok_is}
 use Rattle.ante_pack.proofs.Codec.{Takes, Takes-then, IsCodec, bytes_take, bytes_again}

@@ -1,7 +1,6 @@
 -- Each type's form is a codec, by its fields.
 use Rattle.std.proofs.Common.{refl}
-use Rattle.ante_pack.specs.declared.names.Name.{Name}
-use Rattle.ante_pack.specs.Packed.{u8, u16, u32, u64, name, digest, key, level, key_weight, level_weight, wait_weight, authority}
+use Rattle.ante_pack.specs.Packed.{u8, u16, u32, u64, name, digest, level, key_weight, level_weight, wait_weight, authority}
 use Rattle.std.specs.Int.{w8, w16, w32, w64}
 use Rattle.ante_pack.proofs.Codec.{IsCodec, IsCodec-number, IsCodec-fixed, IsCodec-pair, IsCodec-made, wide8, wide16, wide32, wide64}
 use Rattle.ante_pack.proofs.Repeated.{IsCodec-key, IsCodec-list}

@@ -1,10 +1,10 @@
 -- Packed forms. A form of a type says how its values are packed: the one spelling of each value, which values have a
 -- spelling, and what is read from the front of some bytes, with the first fault and its place.
 use Rattle.std.specs.Prelude.{◌≡◌, ℕ, zero, suc, ◌+◌, ◌-◌, ◌*◌, ◌/◌, ◌%◌, ◌^◌, ◌<◌, ◌≤◌, List, [], ◌∷◌, ◌++◌, length, take, drop, Result, Ok, Err, slice_index, IfOk, IfErr, OnErr, nat_lt, ◌==◌, if◌then◌else◌}
-use Rattle.std.specs.Int.{Width, w8, w16, w32, w64, byte_len, from_le_bytes, to_le_bytes}
+use Rattle.std.specs.Int.{Width, byte_len, from_le_bytes, to_le_bytes}
 use Rattle.std.specs.List.{flat_map, AllByRecursion}
 use Rattle.ante_pack.specs.declared.fault.PackFault.{PackFault}
-use Rattle.ante_pack.specs.declared.fault.PackFault.TheVariants.{Short, LongVaruint, KeyKind, Trailing}
+use Rattle.ante_pack.specs.declared.fault.PackFault.TheVariants.{Short, LongVaruint, Trailing}
 use Rattle.ante_pack.specs.declared.fault.ReadFault.{ReadFault}
 use Rattle.ante_pack.specs.declared.fault.ReadFault.TheVariants as faults
 

@@ -1,5 +1,5 @@
 -- The packed form of each type, its fields in order.
-use Rattle.std.specs.Prelude.{◌≡◌, ℕ, ◌+◌, ◌<◌, ◌≤◌, List, length, Result, Ok, Err, nat_lt, slice_index, if◌then◌else◌}
+use Rattle.std.specs.Prelude.{◌≡◌, ℕ, ◌≤◌, List, length, Ok, Err, nat_lt, slice_index, if◌then◌else◌}
 use Rattle.std.specs.Int.{w8, w16, w32, w64}
 use Rattle.ante_pack.specs.declared.fault.PackFault.TheVariants.{KeyKind}
 use Rattle.ante_pack.specs.declared.names.Name.{Name}

@@ -1,5 +1,4 @@
 -- The packed form of each type of the chain, its fields in order.
-use Rattle.std.specs.Prelude.{ℕ, List}
 use Rattle.ante_pack.specs.Forms.{Form, pair, made_of, list_of, varuint, string}
 use Rattle.ante_pack.specs.Packed.{u8, u16, u32, name, digest, level, authority}
 use Rattle.ante_types.specs.declared.chain.Action.{Action}

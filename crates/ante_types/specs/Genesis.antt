@@ -1,5 +1,5 @@
 -- Genesis as block 1, and the genesis that is built in.
-use Rattle.std.specs.Prelude.{ℕ, List, [], ◌∷◌, ◌++◌, codes, replicate}
+use Rattle.std.specs.Prelude.{[], ◌∷◌, codes, replicate}
 use Rattle.sha2.specs.Sha256.{sha256}
 use Rattle.ante_pack.specs.declared.names.Name.{Name}
 use Rattle.ante_pack.specs.declared.authority.Authority.{Authority}

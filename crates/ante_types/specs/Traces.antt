@@ -1,12 +1,12 @@
 -- The text of a trace.
-use Rattle.std.specs.Prelude.{ℕ, List, [], ◌∷◌, ◌++◌, map, codes, decimal, Option, Some, None}
+use Rattle.std.specs.Prelude.{ℕ, List, [], ◌∷◌, map, codes, decimal, Option, Some, None}
 use Rattle.ante_types.specs.declared.failure.Failure.{Failure}
 use Rattle.ante_types.specs.declared.trace.ActionTrace.{ActionTrace}
 use Rattle.ante_types.specs.declared.trace.Trace.{Trace}
 use Rattle.ante_types.specs.declared.arguments.Arguments.{Arguments}
 use Rattle.ante_types.specs.declared.arguments.Arguments.TheVariants as shapes
 use Rattle.std.specs.Fmt.{signed_decimal}
-use Rattle.ante_types.specs.Json.{quoted, row, array, object, member, hex_json, name_json}
+use Rattle.ante_types.specs.Json.{quoted, array, object, member, hex_json, name_json}
 use Rattle.ante_types.specs.Failures.{failure_code, failure_name, failure_args}
 
 -- one run of an action

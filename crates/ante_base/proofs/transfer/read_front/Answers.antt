@@ -1,4 +1,4 @@
-use Rattle.std.proofs.Common.{◌++◌, take, length, arith, length-append, length-take}
+use Rattle.std.proofs.Common.{◌++◌, take, arith, length-append, length-take}
 use Rattle.ante_base.proofs.Known.{Consumes-then}
 use Rattle.ante_base.proofs.transfer.read_front.Goals as goal
 

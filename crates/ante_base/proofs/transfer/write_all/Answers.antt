@@ -1,6 +1,5 @@
-use Rattle.std.proofs.Common.{◌+◌, take, length, arith}
+use Rattle.std.proofs.Common.{arith}
 use Rattle.std.proofs.Math.Seq.{take-add}
-use Rattle.std.specs.Io.KnownBytes.{Appends}
 use Rattle.ante_base.proofs.Known.{Appends-then}
 use Rattle.ante_base.proofs.transfer.write_all.Goals as goal
 

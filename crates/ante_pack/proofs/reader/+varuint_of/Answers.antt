@@ -1,9 +1,7 @@
-use Rattle.std.proofs.Common.{◌≡◌, ℕ, ◌+◌, ◌-◌, ◌*◌, ◌<◌, ◌≤◌, List, [], ◌∷◌, Result, Ok, Err, true, false, refl, sym, ap, ◌∙◌, arith}
+use Rattle.std.proofs.Common.{◌≡◌, [], ◌∷◌}
 use Rattle.std.proofs.lemmas.Result.{err_from_is_err_and}
 use Rattle.std.proofs.lemmas.List.{nil_from_length}
-use Rattle.ante_pack.specs.declared.fault.PackFault.TheVariants.{LongVaruint}
-use Rattle.ante_pack.specs.Forms.{varuint_within}
-use Rattle.ante_pack.proofs.Varuint.{within-end, within-last, within-one, within-more, gives-fault, gives-zero, gives-more}
+use Rattle.ante_pack.proofs.Varuint.{within-end, within-last, within-one, gives-fault, gives-zero, gives-more}
 use Rattle.ante_pack.proofs.reader.+varuint_of.Goals as goal
 
 pub returns-in_default-clause-number : goal.returns-in_default-clause-number

@@ -1,4 +1,4 @@
-use Rattle.std.proofs.Common.{◌∙◌, arith, refl}
+use Rattle.std.proofs.Common.{◌∙◌}
 use Rattle.ante_pack.specs.Forms.{varuint_bytes}
 use Rattle.ante_pack.proofs.Repeated.{writes_more, writes_last, spelled}
 use Rattle.ante_pack.proofs.writer.varuint_text.Goals as goal

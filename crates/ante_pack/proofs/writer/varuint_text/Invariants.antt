@@ -1,4 +1,3 @@
-use Rattle.std.proofs.Common.{◌≡◌, length}
 use Rattle.ante_pack.specs.Forms.{varuint_bytes}
 use Rattle.ante_pack.proofs.Repeated.{Writes}
 use Rattle.ante_pack.proofs.writer.varuint_text.Given as goal
