@@ -11,5 +11,4 @@ pub fn one_spelling()
     ensures header { HasOneSpelling forms.header }
     ensures block { HasOneSpelling forms.block }
     ensures genesis { HasOneSpelling forms.genesis }
-{
-}
+{}

@@ -9,5 +9,5 @@ returns c = record {
   receipt = one_spelling _ IsCodec-receipt;
   header = one_spelling _ IsCodec-header;
   block = one_spelling _ IsCodec-block;
-  genesis = one_spelling _ IsCodec-genesis
+  genesis = one_spelling _ IsCodec-genesis;
 }
