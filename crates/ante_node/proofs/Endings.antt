@@ -1,5 +1,5 @@
 -- How a refused input ends the whole.
-use Rattle.std.proofs.Common.{◌≡◌, ℕ, List, Option, Result, Ok, Err, sym, subst}
+use Rattle.std.proofs.Common.{ℕ, List, Option, Err, subst}
 use Rattle.ante_node.specs.declared.fault.InputFault.{InputFault}
 use Rattle.ante_node.specs.declared.fault.NodeFault.{NodeFault}
 use Rattle.ante_node.specs.declared.fault.NodeFault.TheVariants as faults

@@ -1,6 +1,6 @@
 -- What a read-only transaction gives on the built-in genesis, where the system's account is the only one and no account
 -- has code.
-use Rattle.std.specs.Prelude.{ℕ, ◌+◌, List, [], ◌∷◌, length, map, codes, Bool, not, ◌&&◌, ◌==◌, nat_lt, Option, Some, None, option_map, if◌then◌else◌}
+use Rattle.std.specs.Prelude.{ℕ, ◌+◌, List, [], ◌∷◌, length, codes, Bool, not, ◌&&◌, ◌==◌, nat_lt, Option, Some, None, option_map, if◌then◌else◌}
 use Rattle.std.specs.List.{list_any, position}
 use Rattle.sha2.specs.Sha256.{sha256}
 use Rattle.ante_pack.specs.declared.names.Name.{Name}

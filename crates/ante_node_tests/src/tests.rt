@@ -11,6 +11,7 @@ use std::test::Fail;
 const PING: &str = "0000000000000000000000000000010000000000ea30550000000000c0a6ab000000\n";
 
 /// A source that hands out one byte at a time.
+#[derive(Drop)]
 struct ByByte<R> {
     inner: R,
 }
@@ -27,10 +28,7 @@ impl<R: Source> Source for ByByte<R> {
 }
 
 fn source(alloc: Global, text: &str, failing: Vec<u64>) -> Result<MemSource, Fail> {
-    Ok(MemSource::new(
-        Vec::from_slice(alloc, text.as_bytes())?,
-        failing,
-    ))
+    Ok(MemSource::new(Vec::from_slice(alloc, text.as_bytes())?, failing))
 }
 
 fn ask<R: Source, S: Sink>(

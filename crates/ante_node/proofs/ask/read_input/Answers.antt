@@ -1,6 +1,5 @@
-use Rattle.std.proofs.Common.{◌≡◌, ◌∙◌, Ok, Err, ap, subst}
+use Rattle.std.proofs.Common.{◌≡◌, Err, subst}
 use Rattle.ante_node.specs.declared.fault.InputFault.{InputFault}
-use Rattle.ante_node.specs.Input.{asked_of}
 use Rattle.ante_node.specs.Ends.{Tells}
 use Rattle.ante_node.proofs.Lines.{whole_asks, ended_if_asked}
 use Rattle.ante_node.proofs.ask.read_input.Goals as goal
