@@ -2,6 +2,8 @@
 #![tactic(auto)]
 
 #[cfg(test)]
+mod ids;
+#[cfg(test)]
 mod names;
 #[cfg(test)]
 mod packed;
