@@ -1,5 +1,5 @@
 -- What each integer instruction gives at the width N: sections 4.3.2 and 4.4.1 of WebAssembly Core 1.0.
-use Rattle.std.specs.Prelude.{◌≡◌, ℕ, ◌-◌, ◌*◌, ◌/◌, ◌^◌, Bool, not, ◌==◌, nat_lt, nat_le, if◌then◌else◌, ℤ, pos, ◌-ℤ◌, ◌*ℤ◌, int_lt, int_le, int_div, Result, Ok, Err, ◌⊎◌}
+use Rattle.std.specs.Prelude.{ℕ, ◌-◌, ◌*◌, ◌/◌, ◌^◌, Bool, true, false, not, ◌==◌, nat_lt, nat_le, if◌then◌else◌, ℤ, pos, ◌-ℤ◌, ◌*ℤ◌, int_lt, int_le, int_div, Result, Ok, Err}
 use Rattle.ante_wnum.specs.Integers.{signed, unsigned, iadd, isub, imul, iand, ior, ixor, ishl, ishr_u, ishr_s, irotl, irotr, iclz, ictz, ipopcnt}
 use Rattle.ante_wnum.specs.declared.Unary.{Unary}
 use Rattle.ante_wnum.specs.declared.Unary.TheVariants.{Clz, Ctz, Popcnt}
@@ -52,8 +52,12 @@ binary_of N Rotl i j = Ok (irotl N i j)
 binary_of N Rotr i j = Ok (irotr N i j)
 
 -- the instructions that trap at the divisor 0
-abbrev pub Divides : Binary → Type 0
-Divides op = (op ≡ DivS) ⊎ (op ≡ DivU) ⊎ (op ≡ RemS) ⊎ (op ≡ RemU)
+abbrev pub divides : Binary → Bool
+divides DivS = true
+divides DivU = true
+divides RemS = true
+divides RemU = true
+divides op = false
 
 -- ---- comparisons, `S` of the signed readings and `U` of the integers
 

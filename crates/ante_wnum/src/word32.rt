@@ -1,6 +1,6 @@
 //! The instructions at 32 bits.
-ghost use Rattle.std.specs.Prelude.{◌≡◌, ◌<◌};
-ghost use Rattle.ante_wnum.specs.Instructions.{unary_of, binary_of, compare_of};
+ghost use Rattle.std.specs.Prelude.{◌≡◌, ◌≢◌, IsTrue, ◌-◌, ◌^◌, ◌<◌, ◌↔◌};
+ghost use Rattle.ante_wnum.specs.Instructions.{unary_of, binary_of, divides, compare_of};
 
 use crate::{Binary, Compare, NumTrap, Unary};
 
@@ -16,7 +16,9 @@ pub fn i32_unary(op: Unary, a: u32) -> u32
 }
 
 fn div_s(a: u32, b: u32) -> Result<u32, NumTrap>
-    ensures { result ≡ binary_of 32 Binary.DivS a b }
+    ensures value { result ≡ binary_of 32 Binary.DivS a b }
+    ensures zero { (result ≡ Err NumTrap.DivZero) ↔ (b ≡ 0) }
+    ensures overflow { (result ≡ Err NumTrap.DivOverflow) ↔ ((a ≡ 2 ^ 31) × (b ≡ 2 ^ 32 - 1)) }
 {
     let (dividend, divisor) = (a.cast_signed(), b.cast_signed());
     if divisor == 0 {
@@ -29,7 +31,9 @@ fn div_s(a: u32, b: u32) -> Result<u32, NumTrap>
 }
 
 fn rem_s(a: u32, b: u32) -> Result<u32, NumTrap>
-    ensures { result ≡ binary_of 32 Binary.RemS a b }
+    ensures value { result ≡ binary_of 32 Binary.RemS a b }
+    ensures zero { (result ≡ Err NumTrap.DivZero) ↔ (b ≡ 0) }
+    ensures whole { result ≢ Err NumTrap.DivOverflow }
 {
     if b == 0 {
         Err(NumTrap::DivZero)
@@ -46,20 +50,26 @@ fn shr_s(a: u32, count: u32) -> u32
 }
 
 fn div_u(a: u32, b: u32) -> Result<u32, NumTrap>
-    ensures { result ≡ binary_of 32 Binary.DivU a b }
+    ensures value { result ≡ binary_of 32 Binary.DivU a b }
+    ensures zero { (result ≡ Err NumTrap.DivZero) ↔ (b ≡ 0) }
+    ensures whole { result ≢ Err NumTrap.DivOverflow }
 {
     if b == 0 { Err(NumTrap::DivZero) } else { Ok(a / b) }
 }
 
 fn rem_u(a: u32, b: u32) -> Result<u32, NumTrap>
-    ensures { result ≡ binary_of 32 Binary.RemU a b }
+    ensures value { result ≡ binary_of 32 Binary.RemU a b }
+    ensures zero { (result ≡ Err NumTrap.DivZero) ↔ (b ≡ 0) }
+    ensures whole { result ≢ Err NumTrap.DivOverflow }
 {
     if b == 0 { Err(NumTrap::DivZero) } else { Ok(a % b) }
 }
 
 /// The instructions of `Binary` at i32. The count of a shift or a rotation is taken modulo 32.
 pub fn i32_binary(op: Binary, a: u32, b: u32) -> Result<u32, NumTrap>
-    ensures { result ≡ binary_of 32 op a b }
+    ensures value { result ≡ binary_of 32 op a b }
+    ensures zero { (result ≡ Err NumTrap.DivZero) ↔ (IsTrue (divides op) × (b ≡ 0)) }
+    ensures overflow { (result ≡ Err NumTrap.DivOverflow) ↔ ((op ≡ Binary.DivS) × (a ≡ 2 ^ 31) × (b ≡ 2 ^ 32 - 1)) }
 {
     match op {
         Binary::Add => Ok(a.wrapping_add(b)),

@@ -5,8 +5,8 @@ use Rattle.std.proofs.lemmas.Bool.{ne_eqb}
 use Rattle.ante_wnum.proofs.Readings.{remainder, cast-is}
 use Rattle.ante_wnum.proofs.word32.rem_s.Goals as goal
 
-pub returns-else-b-eq0 : goal.returns-else-b-eq0
-returns-else-b-eq0 c =
+pub returns-else-b-eq0-clause-value : goal.returns-else-b-eq0-clause-value
+returns-else-b-eq0-clause-value c =
     let x = c.cast_signed.result in
     let y = c.cast_signed-else-b-eq0.result in
     let f : FitsSigned w32 x = record { sfits = c.cast_signed.type_inv } in
