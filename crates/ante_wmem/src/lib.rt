@@ -1,13 +1,20 @@
-// A library with one function.
+//! The linear memory of WebAssembly Core 1.0 as a list of bytes, and what the interpreter asks of its host.
 #![tactic(auto)]
 
-ghost use Rattle.std.specs.Prelude.{◌≡◌};
-ghost use Rattle.ante_wmem.specs.Echo.{echo_of};
+mod bytes;
+mod memory;
 
-// The `ensures` clause is the contract: what `echo` returns is `echo_of` of its argument, a definition
-// in `specs/Echo.antt`, which a caller's clause can cite too.
-pub fn echo(x: usize) -> usize
-    ensures { result ≡ echo_of x }
-{
-    x
+pub use memory::Memory;
+
+/// How many bytes a load or a store moves.
+#[derive(Clone, Copy, PartialEq, Eq, Debug)]
+pub enum Width {
+    One,
+    Two,
+    Four,
+    Eight,
 }
+
+/// A byte of the range lies past the memory's end.
+#[derive(Clone, Copy, PartialEq, Eq, Debug)]
+pub struct OutOfBounds;
