@@ -2,8 +2,12 @@
 #![tactic(auto)]
 
 mod bytes;
+mod host;
 mod memory;
+#[cfg(test)]
+mod tests;
 
+pub use host::{Host, HostAnswer, HostFn};
 pub use memory::Memory;
 
 /// How many bytes a load or a store moves.

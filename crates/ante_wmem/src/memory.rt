@@ -1,9 +1,7 @@
 //! The memory itself.
 ghost use Rattle.std.specs.Prelude.{◌≡◌, ◌+◌, ◌*◌, ◌<◌, ◌≤◌, ◌↔◌, length, replicate, IsTrue, is_ok, IsOk, IfOk, OnOk, OnErr};
 
-use crate::bytes;
-use crate::{OutOfBounds, Width};
-
+use crate::{OutOfBounds, Width, bytes};
 use std::alloc::{AllocError, Global};
 use std::marker::Model;
 
@@ -73,7 +71,13 @@ impl Memory {
     }
 
     /// Puts the lowest bytes of the number at `address + offset`.
-    pub fn store(&mut self, address: u32, offset: u32, width: Width, value: u64) -> Result<(), OutOfBounds>
+    pub fn store(
+        &mut self,
+        address: u32,
+        offset: u32,
+        width: Width,
+        value: u64,
+    ) -> Result<(), OutOfBounds>
         ensures inside { is_ok result ≡ is_inside self.old.bytes (address + offset) (byte_count width) }
         ensures each { IsOk result ↔ IsInside self.old.bytes (address + offset) (byte_count width) }
         ensures stored { OnOk result (self.new ≡ record self.old { bytes = overwritten self.old.bytes (address + offset) (low_bytes (byte_count width) value) }) }
