@@ -1,18 +1,17 @@
 -- What each operation on strings of bits is as arithmetic, which is what std's methods say. All at any width N.
-use Rattle.std.proofs.Common.{◌≡◌, ℕ, zero, suc, ◌+◌, ◌-◌, ◌*◌, ◌/◌, ◌%◌, ◌^◌, ◌<◌, ◌≤◌, ◌==◌, Bool, true, false, cond, min, max, List, [], ◌∷◌, ◌++◌, length, take, drop, refl, sym, ap, ◌∙◌, subst, inl, inr, ◌⊎◌, ⊎_elim, arith, length-append, eq-zero-or-pos, mod-lt, mod-eq_of_lt}
-use Rattle.std.proofs.lemmas.Nat.{pow-add, pow_pos, shr-shr, mod-pow-add, shl-shr, shr_below, or_lt, xor_lt, and_le_l, or_shifted, one_shl}
+use Rattle.std.proofs.Common.{◌≡◌, ℕ, zero, suc, ◌+◌, ◌*◌, ◌/◌, ◌%◌, ◌^◌, ◌<◌, ◌≤◌, ◌==◌, Bool, cond, List, [], ◌∷◌, refl, sym, ap, ◌∙◌, subst, inl, inr, ◌⊎◌, ⊎_elim, arith, mod-lt, mod-eq_of_lt}
+use Rattle.std.proofs.lemmas.Nat.{pow_pos, mod-pow-add, shr_below, or_lt, xor_lt, and_le_l}
 use Rattle.std.proofs.lemmas.Nat.Bits.{bit_at-lt}
-use Rattle.std.proofs.lemmas.List.{append-nil, reverse-append}
+use Rattle.std.proofs.lemmas.List.{reverse-append}
 use Rattle.std.proofs.lemmas.List.Sums.{sum_by-append}
 use Rattle.std.proofs.lemmas.Bool.{cases_lt}
-use Rattle.std.proofs.Math.Nat.{div-eq_of_lt, pow-suc, mul-mod_left}
+use Rattle.std.proofs.Math.Nat.{div-eq_of_lt, pow-suc}
 use Rattle.std.specs.Int.{bit_at}
 use Rattle.std.specs.Int.Count.{ones, ones_step, count_leading_zeros, count_trailing_zeros, leading_unique, under}
-use Rattle.std.specs.Int.Bits.{or_step}
 use Rattle.std.specs.List.{prefix_len}
-use Rattle.std.specs.Prelude.{replicate, reverse, bit_and, bit_or, bit_xor, count_by}
-use Rattle.ante_wnum.specs.Integers.{ibits, integer, joined, iand, ior, ixor, iclz, ictz, ipopcnt}
-use Rattle.ante_wnum.proofs.BitStrings.{ibits-last, length-ibits, drop-ibits, take-ibits, integer-ibits, integer-append, length-copies, integer-zeros, integer-ones, ibits-and, ibits-or, ibits-xor}
+use Rattle.std.specs.Prelude.{reverse, bit_and, bit_or, bit_xor, count_by}
+use Rattle.ante_wnum.specs.Integers.{ibits, integer, iand, ior, ixor, iclz, ictz, ipopcnt}
+use Rattle.ante_wnum.proofs.BitStrings.{ibits-last, integer-ibits, ibits-and, ibits-or, ibits-xor}
 
 -- ---- bit by bit
 

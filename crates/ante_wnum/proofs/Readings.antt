@@ -1,14 +1,14 @@
 -- The signed reading against std's casts, and the instructions that read their operands signed.
-use Rattle.std.proofs.Common.{◌≡◌, ℕ, zero, suc, ◌+◌, ◌-◌, ◌*◌, ◌/◌, ◌%◌, ◌^◌, ◌<◌, ◌≤◌, Bool, true, false, cond, ltb, ◌++◌, take, refl, sym, ap, ap₂, ◌∙◌, subst, inl, inr, ⊎_elim, arith, ℤ, pos, negsuc, ◌+ℤ◌, ◌-ℤ◌, ◌*ℤ◌, mod-eq_of_lt, le_trans}
+use Rattle.std.proofs.Common.{◌≡◌, ℕ, suc, ◌+◌, ◌-◌, ◌/◌, ◌%◌, ◌^◌, ◌<◌, ◌≤◌, Bool, true, false, cond, ltb, ◌++◌, take, refl, sym, ap, ap₂, ◌∙◌, subst, ⊎_elim, arith, ℤ, pos, negsuc, ◌-ℤ◌, ◌*ℤ◌}
 use Rattle.std.proofs.lemmas.Bool.{cases_lt, ltb-true, lt-ltb}
 use Rattle.std.proofs.lemmas.Int.{ints, to_z-of_z, quot-rem}
 use Rattle.std.proofs.lemmas.Nat.{le-div, pow_pos, shr_below}
 use Rattle.std.proofs.Math.IntN.{*ℤ_comm}
 use Rattle.std.proofs.Math.Nat.{div-eq_of_lt}
-use Rattle.std.specs.Int.{Width, w32, w64, bit_at, cast_unsigned, cast_signed, int_shr}
+use Rattle.std.specs.Int.{Width, bit_at, cast_unsigned, cast_signed, int_shr}
 use Rattle.std.specs.Prelude.{replicate, int_div, int_rem, FitsSigned}
-use mir.Val.{bits, hbits, sel}
-use lib.Signed.{mag, mag_shr, mag_rem}
+use mir.Val.{sel}
+use lib.Signed.{mag_shr, mag_rem}
 use Rattle.ante_wnum.specs.Integers.{signed, unsigned, ibits, integer}
 use Rattle.ante_wnum.proofs.Shifts.{shr-is, shr-ones, complement}
 
@@ -50,7 +50,7 @@ shr_s-is N k i some le h = ⊎_elim low high (cases_lt i (2 ^ (N - 1)))
         let next : N ≡ (N - 1) + 1 = omega arith in
         let no : ltb i (2 ^ (N - 1)) ≡ false = grind (arith, ltb-true) in
         let value : integer (replicate k 1 ++ take (N - k) (ibits N i)) ≡ 2 ^ N - suc ((2 ^ N - suc i) / 2 ^ k) =
-            omega (arith, shr-ones N k i le h, complement N k i le h) in
+        omega (arith, shr-ones N k i le h, complement N k i le h) in
         ap (λ d. integer (replicate k d ++ take (N - k) (ibits N i))) (bit_at_from (N - 1) i g (subst (λ n. i < 2 ^ n) next h)) ∙ value
         ∙ ap (λ b. unsigned N (int_shr (sel b (pos i) (negsuc (2 ^ N - suc i))) k)) (sym no)
 

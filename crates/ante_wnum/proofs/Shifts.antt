@@ -1,10 +1,9 @@
 -- What a shift or a rotation of a string of bits is as arithmetic, by a count k of at most N. All at any width N.
-use Rattle.std.proofs.Common.{◌≡◌, ℕ, zero, suc, ◌+◌, ◌-◌, ◌*◌, ◌/◌, ◌%◌, ◌^◌, ◌<◌, ◌≤◌, max, List, [], ◌∷◌, ◌++◌, length, take, drop, refl, sym, ap, ap₂, ◌∙◌, subst, arith, mod-lt, mod-eq_of_lt}
+use Rattle.std.proofs.Common.{◌≡◌, ℕ, zero, suc, ◌+◌, ◌-◌, ◌*◌, ◌/◌, ◌%◌, ◌^◌, ◌<◌, ◌≤◌, ◌++◌, length, take, drop, refl, sym, ap, ap₂, ◌∙◌, subst, arith, mod-lt, mod-eq_of_lt}
 use Rattle.std.proofs.lemmas.Nat.{pow-add, pow_pos, mod-pow-add, shl-shr, shr_below, shr_split, or_shifted, or_comm, div-mul-add}
 use Rattle.std.proofs.lemmas.Nat.Bits.{bit_at_or, same_from_bits}
 use Rattle.std.proofs.lemmas.List.{append-nil}
 use Rattle.std.proofs.Math.Nat.{mod_self, mul-mod_left}
-use Rattle.std.specs.Int.{bit_at}
 use Rattle.std.specs.Prelude.{replicate, bit_or}
 use Rattle.ante_wnum.specs.Integers.{ibits, integer}
 use Rattle.ante_wnum.proofs.BitStrings.{length-ibits, drop-ibits, take-ibits, integer-ibits, integer-append, length-copies, integer-zeros, integer-ones}
@@ -46,8 +45,8 @@ shr-ones N k i le h =
     let split : k + (N - k) ≡ N = omega arith in
     let whole : 2 ^ N ≡ 2 ^ k * 2 ^ (N - k) = ap (λ n. 2 ^ n) (sym split) ∙ pow-add 2 k (N - k) in
     let joined : integer (replicate k 1 ++ take (N - k) (ibits N i)) ≡ integer (replicate k 1) * 2 ^ (N - k) + i / 2 ^ k =
-        integer-append (replicate k 1) (take (N - k) (ibits N i))
-        ∙ ap₂ (λ n y. integer (replicate k 1) * 2 ^ n + y) (length_high N (N - k) i (omega arith)) (high_bits N k i le h) in
+    integer-append (replicate k 1) (take (N - k) (ibits N i))
+    ∙ ap₂ (λ n y. integer (replicate k 1) * 2 ^ n + y) (length_high N (N - k) i (omega arith)) (high_bits N k i le h) in
     let ones : (integer (replicate k 1) + 1) * 2 ^ (N - k) ≡ 2 ^ k * 2 ^ (N - k) = ap (λ x. x * 2 ^ (N - k)) (integer-ones k) in
     omega (arith, whole, joined, ones)
 

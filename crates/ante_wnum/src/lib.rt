@@ -4,10 +4,8 @@
 mod word32;
 mod word64;
 
-
 pub use word32::{i32_binary, i32_compare, i32_unary};
 pub use word64::{i64_binary, i64_compare, i64_unary};
-
 
 /// The instructions with one operand.
 #[derive(Clone, Copy, PartialEq, Eq, Debug)]

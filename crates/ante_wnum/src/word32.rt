@@ -38,7 +38,11 @@ fn rem_s(a: u32, b: u32) -> Result<u32, NumTrap>
     if b == 0 {
         Err(NumTrap::DivZero)
     } else {
-        Ok(a.cast_signed().wrapping_rem(b.cast_signed()).cast_unsigned())
+        Ok(
+            a.cast_signed()
+                .wrapping_rem(b.cast_signed())
+                .cast_unsigned(),
+        )
     }
 }
 
@@ -54,7 +58,11 @@ fn div_u(a: u32, b: u32) -> Result<u32, NumTrap>
     ensures zero { (result ≡ Err NumTrap.DivZero) ↔ (b ≡ 0) }
     ensures whole { result ≢ Err NumTrap.DivOverflow }
 {
-    if b == 0 { Err(NumTrap::DivZero) } else { Ok(a / b) }
+    if b == 0 {
+        Err(NumTrap::DivZero)
+    } else {
+        Ok(a / b)
+    }
 }
 
 fn rem_u(a: u32, b: u32) -> Result<u32, NumTrap>
@@ -62,7 +70,11 @@ fn rem_u(a: u32, b: u32) -> Result<u32, NumTrap>
     ensures zero { (result ≡ Err NumTrap.DivZero) ↔ (b ≡ 0) }
     ensures whole { result ≢ Err NumTrap.DivOverflow }
 {
-    if b == 0 { Err(NumTrap::DivZero) } else { Ok(a % b) }
+    if b == 0 {
+        Err(NumTrap::DivZero)
+    } else {
+        Ok(a % b)
+    }
 }
 
 /// The instructions of `Binary` at i32. The count of a shift or a rotation is taken modulo 32.

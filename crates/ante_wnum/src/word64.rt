@@ -38,7 +38,11 @@ fn rem_s(a: u64, b: u64) -> Result<u64, NumTrap>
     if b == 0 {
         Err(NumTrap::DivZero)
     } else {
-        Ok(a.cast_signed().wrapping_rem(b.cast_signed()).cast_unsigned())
+        Ok(
+            a.cast_signed()
+                .wrapping_rem(b.cast_signed())
+                .cast_unsigned(),
+        )
     }
 }
 
@@ -54,7 +58,11 @@ fn div_u(a: u64, b: u64) -> Result<u64, NumTrap>
     ensures zero { (result ≡ Err NumTrap.DivZero) ↔ (b ≡ 0) }
     ensures whole { result ≢ Err NumTrap.DivOverflow }
 {
-    if b == 0 { Err(NumTrap::DivZero) } else { Ok(a / b) }
+    if b == 0 {
+        Err(NumTrap::DivZero)
+    } else {
+        Ok(a / b)
+    }
 }
 
 fn rem_u(a: u64, b: u64) -> Result<u64, NumTrap>
@@ -62,7 +70,11 @@ fn rem_u(a: u64, b: u64) -> Result<u64, NumTrap>
     ensures zero { (result ≡ Err NumTrap.DivZero) ↔ (b ≡ 0) }
     ensures whole { result ≢ Err NumTrap.DivOverflow }
 {
-    if b == 0 { Err(NumTrap::DivZero) } else { Ok(a % b) }
+    if b == 0 {
+        Err(NumTrap::DivZero)
+    } else {
+        Ok(a % b)
+    }
 }
 
 /// The instructions of `Binary` at i64. The count of a shift or a rotation is taken modulo 64.

@@ -1,4 +1,4 @@
-use Rattle.std.proofs.Common.{◌≡◌, ◌-◌, ◌*◌, ◌/◌, ◌%◌, ◌^◌, bit_or, ap, sym, ◌∙◌, arith, Ok, mod-lt}
+use Rattle.std.proofs.Common.{◌≡◌, ◌-◌, ◌*◌, ◌/◌, ◌%◌, ◌^◌, bit_or, ap, sym, ◌∙◌, arith, Ok}
 use Rattle.ante_wnum.proofs.Operations.{iand-is, ior-is, ixor-is}
 use Rattle.ante_wnum.proofs.Shifts.{shl-is, shr-is, rotl-is, rotr-is}
 use Rattle.ante_wnum.proofs.word64.i64_binary.Goals as goal

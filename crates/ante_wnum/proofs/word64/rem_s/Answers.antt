@@ -1,4 +1,4 @@
-use Rattle.std.proofs.Common.{ap, ap₂, sym, ◌∙◌, Ok, Err, Bool, true, false, cond, FitsSigned, w64, ◌-ℤ◌, ◌*ℤ◌, eq-eqb}
+use Rattle.std.proofs.Common.{ap, ap₂, ◌∙◌, Ok, FitsSigned, w64, ◌-ℤ◌, ◌*ℤ◌}
 use Rattle.std.specs.Int.{cast_unsigned}
 use Rattle.std.specs.Prelude.{int_div}
 use Rattle.std.proofs.lemmas.Bool.{ne_eqb}
