@@ -29,6 +29,10 @@ bytes_at bytes at count = take count (drop at bytes)
 abbrev pub overwritten : List ℕ → (at : ℕ) → List ℕ → List ℕ
 overwritten bytes at others = take at bytes ++ others ++ drop (at + length others) bytes
 
+-- the memory after that
+abbrev pub written : LinearMemory → (at : ℕ) → List ℕ → LinearMemory
+written m at others = record m { bytes = overwritten m.bytes at others }
+
 -- ---- numbers as bytes, the lowest byte first
 
 abbrev pub little_endian : List ℕ → ℕ

@@ -4,7 +4,14 @@ ghost use Rattle.ante_wmem.specs.Linear.{IsInside, is_inside, bytes_at, overwrit
 
 use crate::Width;
 
-/// Whether each byte of the range lies within the length. No sum of the two numbers is made that could wrap.
+/// The standard's effective address, of 33 bits.
+pub(crate) fn effective_address(address: u32, offset: u32) -> usize
+    ensures { result ≡ address + offset }
+{
+    address as usize + offset as usize
+}
+
+/// Whether each byte of the range lies in the slice. No sum is made that could wrap.
 pub(crate) fn is_inside(bytes: &[u8], at: usize, count: usize) -> bool
     ensures test { result ≡ is_inside bytes.now at count }
     ensures each { IsTrue result ↔ IsInside bytes.now at count }

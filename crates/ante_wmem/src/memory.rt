@@ -26,7 +26,7 @@ impl Model for Memory {
 }
 
 impl Memory {
-    ghost use Rattle.ante_wmem.specs.Linear.{page_count, IsInside, is_inside, bytes_at, overwritten, little_endian, low_bytes, byte_count, may_grow, growth_answer, grown};
+    ghost use Rattle.ante_wmem.specs.Linear.{page_count, IsInside, is_inside, bytes_at, written, little_endian, low_bytes, byte_count, may_grow, growth_answer, grown};
 
     /// A memory of zeros.
     pub fn new(alloc: Global, pages: u32, most: u32) -> Result<Memory, AllocError>
@@ -61,7 +61,7 @@ impl Memory {
         ensures each { IsOk result ↔ IsInside self.now.bytes (address + offset) (byte_count width) }
         ensures value { IfOk result (λ v. v ≡ little_endian (bytes_at self.now.bytes (address + offset) (byte_count width))) }
     {
-        let at = address as usize + offset as usize;
+        let at = bytes::effective_address(address, offset);
         let bytes = self.bytes.as_slice();
         if bytes::is_inside(bytes, at, bytes::byte_count(width)) {
             Ok(bytes::number_at(bytes, at, width))
@@ -80,10 +80,10 @@ impl Memory {
     ) -> Result<(), OutOfBounds>
         ensures inside { is_ok result ≡ is_inside self.old.bytes (address + offset) (byte_count width) }
         ensures each { IsOk result ↔ IsInside self.old.bytes (address + offset) (byte_count width) }
-        ensures stored { OnOk result (self.new ≡ record self.old { bytes = overwritten self.old.bytes (address + offset) (low_bytes (byte_count width) value) }) }
+        ensures stored { OnOk result (self.new ≡ written self.old (address + offset) (low_bytes (byte_count width) value)) }
         ensures refused { OnErr result (self.new ≡ self.old) }
     {
-        let at = address as usize + offset as usize;
+        let at = bytes::effective_address(address, offset);
         if !bytes::is_inside(self.bytes.as_slice(), at, bytes::byte_count(width)) {
             return Err(OutOfBounds);
         }
@@ -112,7 +112,7 @@ impl Memory {
     pub fn write_bytes(&mut self, at: u32, bytes: &[u8]) -> Result<(), OutOfBounds>
         ensures inside { is_ok result ≡ is_inside self.old.bytes at (length bytes.now) }
         ensures each { IsOk result ↔ IsInside self.old.bytes at (length bytes.now) }
-        ensures written { OnOk result (self.new ≡ record self.old { bytes = overwritten self.old.bytes at bytes.now }) }
+        ensures written { OnOk result (self.new ≡ written self.old at bytes.now) }
         ensures refused { OnErr result (self.new ≡ self.old) }
     {
         let at = at as usize;

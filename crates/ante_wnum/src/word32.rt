@@ -53,6 +53,20 @@ fn shr_s(a: u32, count: u32) -> u32
     (a.cast_signed() >> count).cast_unsigned()
 }
 
+fn rotl(a: u32, count: u32) -> u32
+    requires { count < 32 }
+    ensures { Ok result ≡ binary_of 32 Binary.Rotl a count }
+{
+    a.rotate_left(count)
+}
+
+fn rotr(a: u32, count: u32) -> u32
+    requires { count < 32 }
+    ensures { Ok result ≡ binary_of 32 Binary.Rotr a count }
+{
+    a.rotate_right(count)
+}
+
 fn div_u(a: u32, b: u32) -> Result<u32, NumTrap>
     ensures value { result ≡ binary_of 32 Binary.DivU a b }
     ensures zero { (result ≡ Err NumTrap.DivZero) ↔ (b ≡ 0) }
@@ -83,6 +97,7 @@ pub fn i32_binary(op: Binary, a: u32, b: u32) -> Result<u32, NumTrap>
     ensures zero { (result ≡ Err NumTrap.DivZero) ↔ (IsTrue (divides op) × (b ≡ 0)) }
     ensures overflow { (result ≡ Err NumTrap.DivOverflow) ↔ ((op ≡ Binary.DivS) × (a ≡ 2 ^ 31) × (b ≡ 2 ^ 32 - 1)) }
 {
+    let k = b % 32;
     match op {
         Binary::Add => Ok(a.wrapping_add(b)),
         Binary::Sub => Ok(a.wrapping_sub(b)),
@@ -94,11 +109,11 @@ pub fn i32_binary(op: Binary, a: u32, b: u32) -> Result<u32, NumTrap>
         Binary::And => Ok(a & b),
         Binary::Or => Ok(a | b),
         Binary::Xor => Ok(a ^ b),
-        Binary::Shl => Ok(a << (b % 32)),
-        Binary::ShrS => Ok(shr_s(a, b % 32)),
-        Binary::ShrU => Ok(a >> (b % 32)),
-        Binary::Rotl => Ok(a.rotate_left(b)),
-        Binary::Rotr => Ok(a.rotate_right(b)),
+        Binary::Shl => Ok(a << k),
+        Binary::ShrS => Ok(shr_s(a, k)),
+        Binary::ShrU => Ok(a >> k),
+        Binary::Rotl => Ok(rotl(a, k)),
+        Binary::Rotr => Ok(rotr(a, k)),
     }
 }
 

@@ -53,6 +53,20 @@ fn shr_s(a: u64, count: u32) -> u64
     (a.cast_signed() >> count).cast_unsigned()
 }
 
+fn rotl(a: u64, count: u32) -> u64
+    requires { count < 64 }
+    ensures { Ok result ≡ binary_of 64 Binary.Rotl a count }
+{
+    a.rotate_left(count)
+}
+
+fn rotr(a: u64, count: u32) -> u64
+    requires { count < 64 }
+    ensures { Ok result ≡ binary_of 64 Binary.Rotr a count }
+{
+    a.rotate_right(count)
+}
+
 fn div_u(a: u64, b: u64) -> Result<u64, NumTrap>
     ensures value { result ≡ binary_of 64 Binary.DivU a b }
     ensures zero { (result ≡ Err NumTrap.DivZero) ↔ (b ≡ 0) }
@@ -98,8 +112,8 @@ pub fn i64_binary(op: Binary, a: u64, b: u64) -> Result<u64, NumTrap>
         Binary::Shl => Ok(a << k),
         Binary::ShrS => Ok(shr_s(a, k)),
         Binary::ShrU => Ok(a >> k),
-        Binary::Rotl => Ok(a.rotate_left(k)),
-        Binary::Rotr => Ok(a.rotate_right(k)),
+        Binary::Rotl => Ok(rotl(a, k)),
+        Binary::Rotr => Ok(rotr(a, k)),
     }
 }
 

@@ -1,6 +1,6 @@
-use Rattle.std.proofs.Common.{◌%◌, ap, sym, ◌∙◌, arith, Ok}
+use Rattle.std.proofs.Common.{◌%◌, ap, sym, arith, Ok}
 use Rattle.ante_wnum.proofs.Operations.{iand-is, ior-is, ixor-is}
-use Rattle.ante_wnum.proofs.Shifts.{shl-is, shr-is, rotl-is, rotr-is}
+use Rattle.ante_wnum.proofs.Shifts.{shl-is, shr-is}
 use Rattle.ante_wnum.proofs.word32.i32_binary.Goals as goal
 
 pub returns-in-And-clause-value : goal.returns-in-And-clause-value
@@ -17,9 +17,3 @@ returns-in-Shl-clause-value c = rw c.in-Shl.is (ap Ok (sym (shl-is 32 (c.args.b 
 
 pub returns-in-ShrU-clause-value : goal.returns-in-ShrU-clause-value
 returns-in-ShrU-clause-value c = rw c.in-ShrU.is (ap Ok (sym (shr-is 32 (c.args.b % 32) c.args.a (omega arith) c.ranges.a.fits)))
-
-pub returns-in-Rotl-clause-value : goal.returns-in-Rotl-clause-value
-returns-in-Rotl-clause-value c = rw c.in-Rotl.is (ap Ok (c.rotate_left.ensures ∙ sym (rotl-is 32 (c.args.b % 32) c.args.a (omega arith) c.ranges.a.fits)))
-
-pub returns-in-Rotr-clause-value : goal.returns-in-Rotr-clause-value
-returns-in-Rotr-clause-value c = rw c.in-Rotr.is (ap Ok (c.rotate_right.ensures ∙ sym (rotr-is 32 (c.args.b % 32) c.args.a (omega arith) c.ranges.a.fits)))

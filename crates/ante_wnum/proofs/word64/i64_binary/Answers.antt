@@ -1,6 +1,6 @@
-use Rattle.std.proofs.Common.{◌≡◌, ◌-◌, ◌*◌, ◌/◌, ◌%◌, ◌^◌, bit_or, ap, sym, ◌∙◌, arith, Ok}
+use Rattle.std.proofs.Common.{◌%◌, ap, sym, arith, Ok}
 use Rattle.ante_wnum.proofs.Operations.{iand-is, ior-is, ixor-is}
-use Rattle.ante_wnum.proofs.Shifts.{shl-is, shr-is, rotl-is, rotr-is}
+use Rattle.ante_wnum.proofs.Shifts.{shl-is, shr-is}
 use Rattle.ante_wnum.proofs.word64.i64_binary.Goals as goal
 
 pub returns-in-And-clause-value : goal.returns-in-And-clause-value
@@ -17,15 +17,3 @@ returns-in-Shl-clause-value c = rw c.in-Shl.is (ap Ok (sym (shl-is 64 (c.args.b 
 
 pub returns-in-ShrU-clause-value : goal.returns-in-ShrU-clause-value
 returns-in-ShrU-clause-value c = rw c.in-ShrU.is (ap Ok (sym (shr-is 64 (c.args.b % 64) c.args.a (omega arith) c.ranges.a.fits)))
-
-pub returns-in-Rotl-clause-value : goal.returns-in-Rotl-clause-value
-returns-in-Rotl-clause-value c =
-    let same : c.args.b % 64 % 64 ≡ c.args.b % 64 = omega arith in
-    rw c.in-Rotl.is (ap Ok (c.rotate_left.ensures ∙ ap (λ k. bit_or ((c.args.a * 2 ^ k) % 2 ^ 64) (c.args.a / 2 ^ ((64 - k) % 64))) same
-    ∙ sym (rotl-is 64 (c.args.b % 64) c.args.a (omega arith) c.ranges.a.fits)))
-
-pub returns-in-Rotr-clause-value : goal.returns-in-Rotr-clause-value
-returns-in-Rotr-clause-value c =
-    let same : c.args.b % 64 % 64 ≡ c.args.b % 64 = omega arith in
-    rw c.in-Rotr.is (ap Ok (c.rotate_right.ensures ∙ ap (λ k. bit_or (c.args.a / 2 ^ k) ((c.args.a * 2 ^ ((64 - k) % 64)) % 2 ^ 64)) same
-    ∙ sym (rotr-is 64 (c.args.b % 64) c.args.a (omega arith) c.ranges.a.fits)))
