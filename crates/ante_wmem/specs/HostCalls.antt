@@ -21,9 +21,10 @@ pub record Outcome (W R : Type 0) : Type 0 where
 abbrev pub HostMeaning : Type 0 → Type 0 → Type 0
 HostMeaning W R = W → ℕ → List ℕ → LinearMemory → ℕ → Outcome W R
 
--- any function may be called with any arguments at every number of steps left below this one
-abbrev pub IsReady : {W : Type 0} → (W → ℕ → List ℕ → ℕ → Type 0) → W → ℕ → Type 0
-IsReady allowed host left = (function : ℕ) (arguments : List ℕ) (less : ℕ) → less < left → allowed host function arguments less
+-- what may be called of the old host with `before` steps left may be called of the new one at every number of steps below `after`
+abbrev pub StaysAllowed : {W : Type 0} → (W → ℕ → List ℕ → ℕ → Type 0) → (old : W) → (before : ℕ) → (new : W) → (after : ℕ) → Type 0
+StaysAllowed allowed old before new after =
+    (function : ℕ) (arguments : List ℕ) (less : ℕ) → less < after → allowed old function arguments before → allowed new function arguments less
 
 -- The code answers the outcome or want of memory. After a refusal, StepLimit and want of memory `stands` says what is left of the host.
 abbrev pub IsAnswer : {W R : Type 0} → Outcome W R → (stands : HostAnswer R → W → Type 0) → HostAnswer R → W → LinearMemory → ℕ → Type 0

@@ -1,7 +1,7 @@
 //! What the interpreter asks of its host.
 ghost use Rattle.std.specs.Prelude.{◌≡◌, ℕ, ◌≤◌, List};
 ghost use Rattle.ante_wmem.specs.Linear.{LinearMemory};
-ghost use Rattle.ante_wmem.specs.HostCalls.{HostMeaning, IsReady, IsAnswer};
+ghost use Rattle.ante_wmem.specs.HostCalls.{HostMeaning, StaysAllowed, IsAnswer};
 ghost use Rattle.ante_wmem.specs.declared.host.HostAnswer.{HostAnswer};
 
 use crate::Memory;
@@ -23,6 +23,7 @@ pub enum HostAnswer<R> {
     Refused(R),
     /// The call costs more steps than are left.
     StepLimit,
+    /// The call wants memory that it is refused.
     OutOfMemory,
 }
 
@@ -48,13 +49,17 @@ pub trait Host {
         left: &mut u64,
     ) -> HostAnswer<Self::Refusal>
         requires { allowed self.old function.0 args.now left.old }
-        ensures answer { IsAnswer (meaning self.old function.0 args.now memory.old left.old) (stands self.old function.0 args.now memory.old left.old) result self.new memory.new left.new }
+        ensures answer { let outcome = meaning self.old function.0 args.now memory.old left.old in
+            let stands = stands self.old function.0 args.now memory.old left.old in
+            IsAnswer outcome stands result self.new memory.new left.new }
         ensures left { left.new ≤ left.old }
-        ensures ready { IsReady allowed self.new left.new };
+        ensures after { StaysAllowed allowed self.old left.old self.new left.new };
 
     // Fewer steps left keep the condition.
-    ghost lower: { (host : Self) (function : ℕ) (arguments : List ℕ) (left less : ℕ) → less ≤ left → allowed host function arguments left → allowed host function arguments less };
+    ghost lower: { (host : Self) (function : ℕ) (arguments : List ℕ) (left less : ℕ) →
+        less ≤ left → allowed host function arguments left → allowed host function arguments less };
 
     // No call raises the steps left.
-    ghost falls: { (host : Self) (function : ℕ) (arguments : List ℕ) (memory : LinearMemory) (left : ℕ) → (meaning host function arguments memory left).left ≤ left };
+    ghost falls: { (host : Self) (function : ℕ) (arguments : List ℕ) (memory : LinearMemory) (left : ℕ) →
+        (meaning host function arguments memory left).left ≤ left };
 }
