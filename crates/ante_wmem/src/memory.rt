@@ -22,11 +22,14 @@ impl Model for Memory {
 
     ghost view = { λ m. record { bytes = m.bytes.items; most = m.most } };
 
-    ghost invariant = { λ m. (65536 * (length m.bytes.items / 65536) ≡ length m.bytes.items) × (length m.bytes.items / 65536 ≤ m.most) × (m.most ≤ 528) };
+    ghost invariant = { λ m.
+        (65536 * (length m.bytes.items / 65536) ≡ length m.bytes.items) ×
+        (length m.bytes.items / 65536 ≤ m.most) × (m.most ≤ 528) };
 }
 
 impl Memory {
-    ghost use Rattle.ante_wmem.specs.Linear.{page_count, IsInside, is_inside, bytes_at, written, little_endian, low_bytes, byte_count, may_grow, growth_answer, grown};
+    ghost use Rattle.ante_wmem.specs.Linear.{page_count, IsInside, is_inside, bytes_at, written};
+    ghost use Rattle.ante_wmem.specs.Linear.{little_endian, low_bytes, byte_count, may_grow, growth_answer, grown};
 
     /// A memory of zeros.
     pub fn new(alloc: Global, pages: u32, most: u32) -> Result<Memory, AllocError>

@@ -1,5 +1,5 @@
 -- The integer operations of section 4.3.2 of WebAssembly Core 1.0, under the standard's names, at any width N.
--- An integer of N bits is a number below 2 ^ N. Division, which can trap, stands in `Instructions`.
+-- An integer of N bits is a number below 2 ^ N. Divisions, which can trap, and comparisons stand in `Instructions`.
 use Rattle.std.specs.Prelude.{ℕ, zero, suc, ◌+◌, ◌-◌, ◌*◌, ◌%◌, ◌^◌, min, max, ◌==◌, nat_lt, if◌then◌else◌, List, [], ◌∷◌, ◌++◌, length, reverse, take, drop, replicate, count_by, ℤ, pos, negsuc, ◌-ℤ◌}
 use Rattle.std.specs.List.{prefix_len}
 use Rattle.std.specs.Int.{bit_at}
@@ -10,12 +10,12 @@ use Rattle.std.specs.Int.{bit_at}
 abbrev pub signed : ℕ → ℕ → ℤ
 signed N i = if nat_lt i (2 ^ (N - 1)) then pos i else (pos i -ℤ pos (2 ^ N))
 
--- the integer of which z is the signed reading: z modulo 2 ^ N
+-- the integer of which z is the signed reading
 abbrev pub unsigned : ℕ → ℤ → ℕ
 unsigned N (pos n) = n
 unsigned N (negsuc n) = 2 ^ N - suc n
 
--- ---- arithmetic modulo 2 ^ N
+-- ---- arithmetic modulo 2 ^ N; to take j away is to add 2 ^ N - j
 
 abbrev pub iadd : ℕ → ℕ → ℕ → ℕ
 iadd N i j = (i + j) % 2 ^ N
