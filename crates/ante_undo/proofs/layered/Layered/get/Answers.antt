@@ -1,0 +1,10 @@
+use Rattle.std.proofs.Common.{◌≡◌, Some, None}
+use Rattle.ante_undo.proofs.Entries.{value_found}
+use Rattle.ante_undo.proofs.layered.Layered.get.Goals as goal
+
+pub returns-in-Some : goal.returns-in-Some
+returns-in-Some g c =
+    rw (← c.self.view_is) (value_found g.K.Ord.cmp c.args.key.now (Some (c.in-Some.field-0-0.now, c.in-Some.value.now)) _ (rw c.deref.ensures.value at c.in-Some.ensures))
+
+pub returns-in-None : goal.returns-in-None
+returns-in-None g c = rw (← c.self.view_is) (value_found g.K.Ord.cmp c.args.key.now None _ (rw c.deref.ensures.value at c.in-None.ensures))

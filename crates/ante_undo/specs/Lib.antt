@@ -1,0 +1,4 @@
+pub mod Entries
+pub mod Stack
+pub mod Changes
+pub mod Layout
