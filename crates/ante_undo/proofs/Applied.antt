@@ -1,5 +1,5 @@
 -- What a look-up finds after a list of changes.
-use Rattle.std.proofs.Common.{◌≡◌, ℕ, ◌+◌, ◌-◌, ◌<◌, ◌≤◌, true, false, cond, T, List, [], ◌∷◌, ◌++◌, take, get_or, length, Option, Some, None, option_map, refl, sym, ap, subst, ◌∙◌, Ordering, is_eq, add-one, take-suc, take-take, arith}
+use Rattle.std.proofs.Common.{◌≡◌, ℕ, ◌+◌, ◌-◌, ◌<◌, ◌≤◌, Bool, true, false, cond, T, List, [], ◌∷◌, ◌++◌, take, get_or, length, Option, Some, None, option_map, refl, sym, ap, subst, ◌∙◌, Ordering, is_eq, add-one, take-suc, take-take, arith}
 use Rattle.std.specs.Ordering.{eq_by_cmp}
 use Rattle.std.specs.Cmp.{IsTotalOrder}
 use Rattle.std.specs.FinMap.Entries.{is_sorted}
@@ -49,3 +49,10 @@ module _ {K V : Type 0} (cmp : K → K → Ordering) where
     pub sorted_applied : (m : List (K × V)) (log : List (K × Option V)) → T (is_sorted cmp m) → T (is_sorted cmp (applied cmp m log))
     sorted_applied m [] h = h
     sorted_applied m (c ∷ cs) h = sorted_applied (changed cmp m c.0 c.1) cs (sorted_changed cmp o m c.0 c.1 h)
+
+    pub is_sorted-applied : (log : List (K × Option V)) → is_sorted cmp (applied cmp [] log) ≡ true
+    is_sorted-applied log = is_true (is_sorted cmp (applied cmp [] log)) (sorted_applied [] log tt)
+      where
+        is_true : (b : Bool) → T b → b ≡ true
+        is_true true h = refl
+        is_true false h = absurd h

@@ -4,3 +4,4 @@ pub mod Lists
 pub mod Shelved
 pub mod Steps
 pub mod Held
+pub mod Nearest

@@ -1,10 +1,12 @@
 ghost use Rattle.std.specs.Prelude.{◌≡◌, ℕ, ◌+◌, ◌-◌, ◌*◌, ◌^◌, ◌<◌, ◌≤◌, [], ◌++◌, ◌∷◌, length, take, slice_index_or, is_some, IsTrue, IfSome, IsSome, IsNone, Some, None, IfOk, IfErr, OnOk, OnErr};
-ghost use Rattle.std.specs.Option.{option_copied};
-ghost use Rattle.std.specs.FinMap.Entries.{find};
-ghost use Rattle.ante_undo.specs.Entries.{changed};
+ghost use Rattle.std.specs.Option.{option_copied, option_map};
+ghost use Rattle.std.specs.Map.Iter.{deref_pair};
+ghost use Rattle.std.specs.FinMap.Entries.{find, is_sorted};
+ghost use Rattle.ante_undo.specs.Entries.{changed, entry_from, entry_after, entry_before};
 ghost use Rattle.ante_undo.specs.Stack.{opened, with_top, begun, committed, under_top, IsSquashed, without_shelf, IsShelved, IsUnshelved, IsAbove, IsSound};
 
 use crate::changes::{cut_out, newest_at};
+use crate::neighbours::{Side, nearest};
 use std::alloc::{AllocError, AllocFailed, Global};
 use std::marker::Model;
 
@@ -59,6 +61,30 @@ impl<K: Ord + Copy, V: Drop> Layered<K, V> {
             Some((_, value)) => Some(value),
             None => None,
         }
+    }
+
+    /// The entry with the least key that is not below the given one.
+    pub fn at_or_after(&self, key: &K) -> Option<(&K, &V)>
+        ensures nearest { option_map deref_pair result ≡ entry_from K.cmp key.now self.now.top }
+        ensures ordered { IsTrue (is_sorted K.cmp self.now.top) }
+    {
+        nearest(&self.log[..self.standing], Side::AtOrAfter, key)
+    }
+
+    /// The entry with the least key above the given one.
+    pub fn after(&self, key: &K) -> Option<(&K, &V)>
+        ensures nearest { option_map deref_pair result ≡ entry_after K.cmp key.now self.now.top }
+        ensures ordered { IsTrue (is_sorted K.cmp self.now.top) }
+    {
+        nearest(&self.log[..self.standing], Side::After, key)
+    }
+
+    /// The entry with the greatest key below the given one.
+    pub fn before(&self, key: &K) -> Option<(&K, &V)>
+        ensures nearest { option_map deref_pair result ≡ entry_before K.cmp key.now self.now.top }
+        ensures ordered { IsTrue (is_sorted K.cmp self.now.top) }
+    {
+        nearest(&self.log[..self.standing], Side::Before, key)
     }
 
     /// Puts the value at the key, and hands it back where memory is refused.

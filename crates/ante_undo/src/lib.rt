@@ -4,5 +4,6 @@
 
 mod changes;
 mod layered;
+mod neighbours;
 
 pub use crate::layered::Layered;
