@@ -7,3 +7,6 @@ mod layered;
 mod neighbours;
 
 pub use crate::layered::Layered;
+
+#[cfg(test)]
+mod tests;
