@@ -1,9 +1,8 @@
 -- What a look-up finds after a list of changes.
-use Rattle.std.proofs.Common.{◌≡◌, ℕ, ◌+◌, ◌-◌, ◌<◌, ◌≤◌, Bool, true, false, cond, T, List, [], ◌∷◌, ◌++◌, take, get_or, length, Option, Some, None, option_map, refl, sym, ap, subst, ◌∙◌, Ordering, is_eq, add-one, take-suc, take-take, arith}
+use Rattle.std.proofs.Common.{◌≡◌, ℕ, ◌+◌, ◌-◌, ◌<◌, ◌≤◌, Bool, true, false, cond, T, List, [], ◌∷◌, ◌++◌, take, get_or, length, Option, option_map, refl, sym, ap, ◌∙◌, Ordering, add-one, take-suc, take-take, arith}
 use Rattle.std.specs.Ordering.{eq_by_cmp}
 use Rattle.std.specs.Cmp.{IsTotalOrder}
 use Rattle.std.specs.FinMap.Entries.{is_sorted}
-use Rattle.std.specs.List.{AllByRecursion}
 use Rattle.ante_undo.specs.Entries.{changed, entry_at}
 use Rattle.ante_undo.specs.Changes.{applied, map_at}
 use Rattle.ante_undo.proofs.Entries.{entry_changed, sorted_changed}

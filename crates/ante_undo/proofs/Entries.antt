@@ -2,22 +2,22 @@
 use Rattle.std.proofs.Common.{◌≡◌, Bool, true, false, cond, not, ◌&&◌, T, List, [], ◌∷◌, Option, Some, None, option_map, refl, sym, ap, subst, ◌∙◌, Ordering, Less, Equal, Greater, is_lt, is_eq}
 use Rattle.std.specs.Ordering.{ordering_reverse, eq_by_cmp}
 use Rattle.std.specs.Cmp.{IsTotalOrder, alike_right}
-use Rattle.std.specs.FinMap.Entries.{by_order, put, find, where_key, is_sorted, below_all, is_sorted-where_key}
-use Rattle.ante_undo.specs.Entries.{first_where, with_entry, without_key, changed, entry_at}
+use Rattle.std.specs.FinMap.Entries.{by_order, put, find, is_sorted, below_all, is_sorted-where_key}
+use Rattle.ante_undo.specs.Entries.{with_entry, without_key, changed, entry_at}
 
 both : (a b : Bool) → T a → T b → T (a && b)
 both true b p q = q
 both false b p q = p
 
-first : (a b : Bool) → T (a && b) → T a
+pub first : (a b : Bool) → T (a && b) → T a
 first true b p = tt
 first false b p = p
 
-second : (a b : Bool) → T (a && b) → T b
+pub second : (a b : Bool) → T (a && b) → T b
 second true b p = p
 second false b p = absurd p
 
-less : (o : Ordering) → T (is_lt o) → o ≡ Less
+pub less : (o : Ordering) → T (is_lt o) → o ≡ Less
 less Less p = refl
 less Equal p = absurd p
 less Greater p = absurd p
@@ -119,6 +119,22 @@ module _ {K V : Type 0} (cmp : K → K → Ordering) where
     pub entry_changed : (m : List (K × V)) (k : K) (v : Option V) (q : K) → entry_at cmp q (changed cmp m k v) ≡ cond (eq_by_cmp cmp q k) (option_map (λ x. (k, x)) v) (entry_at cmp q m)
     entry_changed m k (Some v) q = entry_with q k v m
     entry_changed m k None q = entry_without q k m
+
+    -- after a change the value at its key is the new one, or none, and the others stay
+    pub find_changed : (m : List (K × V)) (k : K) (v : Option V) (q : K) → find cmp q (changed cmp m k v) ≡ cond (eq_by_cmp cmp q k) v (find cmp q m)
+    find_changed m k v q =
+        find_entry q (changed cmp m k v)
+        ∙ ap (option_map (λ e. e.1)) (entry_changed m k v q)
+        ∙ by_test (eq_by_cmp cmp q k)
+        ∙ ap (cond (eq_by_cmp cmp q k) v) (sym (find_entry q m))
+      where
+        same : (v : Option V) → option_map (λ (e : K × V). e.1) (option_map (λ x. (k, x)) v) ≡ v
+        same None = refl
+        same (Some x) = refl
+
+        by_test : (b : Bool) → option_map (λ (e : K × V). e.1) (cond b (option_map (λ x. (k, x)) v) (entry_at cmp q m)) ≡ cond b v (option_map (λ (e : K × V). e.1) (entry_at cmp q m))
+        by_test true = same v
+        by_test false = refl
 
   -- where keys that tie are one, an entry takes its place as std's maps have it
   pub with_is_put : ((a b : K) → cmp a b ≡ Equal → a ≡ b) → (k : K) (v : V) (es : List (K × V)) → with_entry cmp k v es ≡ put cmp k v es

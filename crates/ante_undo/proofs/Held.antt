@@ -1,10 +1,10 @@
 -- The layout that two lists hold, after each call has changed them.
-use Rattle.std.proofs.Common.{◌≡◌, ℕ, suc, ◌+◌, ◌-◌, ◌*◌, ◌^◌, ◌<◌, ◌≤◌, List, [], ◌∷◌, ◌++◌, take, drop, get_or, length, Option, Some, None, option_map, IfSome, IsNone, MatchOption, true≢false, insert, remove, refl, sym, ap, ap₂, subst, ◌∙◌, Ordering, arith, append_assoc, append-nil, length-append, length-take-le, length-drop, take-take, take-append-drop}
+use Rattle.std.proofs.Common.{◌≡◌, ℕ, suc, ◌+◌, ◌-◌, ◌^◌, ◌<◌, ◌≤◌, List, [], ◌∷◌, ◌++◌, take, drop, get_or, length, Option, Some, None, option_map, IsNone, MatchOption, true≢false, insert, remove, refl, sym, ap, ap₂, subst, ◌∙◌, Ordering, arith, append_assoc, append-nil, length-append, length-take-le, length-drop, take-take, take-append-drop}
 use Rattle.std.proofs.lemmas.List.{take_at, drop_at, drop-take, drop-drop, drop_all, get_or-take, length-map}
 use Rattle.std.proofs.Math.Seq.{take-length, drop-length}
 use Rattle.std.proofs.lemmas.Grind.{get_or_default_zero}
 use Rattle.ante_undo.specs.Layout.{Layout, laid_out, Stands, IsHeld, HasShelf, stack_shown, shelf_shown, ends_of, kept_sessions, changes_below, marks_below}
-use Rattle.ante_undo.specs.Stack.{Stack, with_top, begun, committed, without_shelf, under_top, IsSquashed, IsShelved, IsBroughtBack, IsUnshelved, IsAbove}
+use Rattle.ante_undo.specs.Stack.{with_top, begun, committed, without_shelf, under_top, IsSquashed, IsShelved, IsBroughtBack, IsUnshelved, IsAbove}
 use Rattle.ante_undo.specs.Entries.{changed}
 use Rattle.ante_undo.specs.Changes.{applied, map_at}
 use Rattle.ante_undo.proofs.Shelved.{moved, end_within}

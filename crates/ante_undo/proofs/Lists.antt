@@ -1,5 +1,5 @@
 -- Lists of numbers that rise, and lists cut in two.
-use Rattle.std.proofs.Common.{◌≡◌, ℕ, zero, suc, ◌+◌, ◌-◌, ◌<◌, ◌≤◌, List, [], ◌∷◌, ◌++◌, map, take, drop, get_or, length, refl, sym, ap, ap₂, subst, ◌∙◌, le_trans, arith, append_assoc, zero-le}
+use Rattle.std.proofs.Common.{◌≡◌, ℕ, zero, suc, ◌<◌, ◌≤◌, List, [], ◌∷◌, ◌++◌, map, take, drop, get_or, length, refl, ap, subst, le_trans, arith}
 use Rattle.std.specs.List.{AllByRecursion}
 use Rattle.ante_undo.specs.Layout.{IsRising}
 

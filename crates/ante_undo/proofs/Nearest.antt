@@ -1,29 +1,18 @@
 -- That the nearest of the changed keys which are in the map leads to the neighbour in the map.
-use Rattle.std.proofs.Common.{◌≡◌, ℕ, ◌+◌, ◌<◌, Bool, true, false, true≢false, cond, not, ◌&&◌, T, List, [], ◌∷◌, ◌++◌, take, get_or, length, is_some, Option, Some, None, IfSome, option_map, refl, sym, ap, subst, subst₂, ◌∙◌, Ordering, Less, Equal, Greater, is_lt, is_eq, is_gt, add-one, take-suc}
+use Rattle.std.proofs.Common.{◌≡◌, ℕ, ◌+◌, ◌<◌, Bool, true, false, true≢false, cond, not, ◌&&◌, T, List, [], ◌∷◌, ◌++◌, take, get_or, length, is_some, Option, Some, None, IfSome, refl, sym, ap, subst₂, ◌∙◌, Ordering, Less, Equal, Greater, is_lt, is_eq, is_gt, add-one, take-suc}
 use Rattle.std.specs.Ordering.{ordering_reverse, eq_by_cmp}
+use Rattle.std.specs.Option.{option_or}
 use Rattle.std.specs.Cmp.{IsTotalOrder, alike_right, tied_itself}
 use Rattle.std.specs.List.{AllByRecursion}
 use Rattle.std.specs.FinMap.Entries.{by_order, is_sorted, below_all}
 use Rattle.ante_undo.specs.declared.neighbours.Side.{Side}
 use Rattle.ante_undo.specs.declared.neighbours.Side.TheVariants.{AtOrAfter, After, Before}
-use Rattle.ante_undo.specs.Entries.{first_where, last_where, or_else, with_entry, without_key, changed, entry_at}
+use Rattle.ante_undo.specs.Entries.{first_where, last_where, with_entry, without_key, changed, entry_at}
 use Rattle.ante_undo.specs.Changes.{applied}
 use Rattle.ante_undo.specs.Sides.{lies_on, is_nearer, beats, entry_on}
 use Rattle.ante_undo.proofs.Applied.{sorted_applied}
+use Rattle.ante_undo.proofs.Entries.{first, second, less}
 use Rattle.ante_undo.proofs.Lists.{all_also, all_append}
-
-first : (a b : Bool) → T (a && b) → T a
-first true b p = tt
-first false b p = p
-
-second : (a b : Bool) → T (a && b) → T b
-second true b p = p
-second false b p = absurd p
-
-less : (o : Ordering) → T (is_lt o) → o ≡ Less
-less Less p = refl
-less Equal p = absurd p
-less Greater p = absurd p
 
 less_is : (o : Ordering) → is_lt o ≡ true → o ≡ Less
 less_is Less p = refl
@@ -82,11 +71,11 @@ module _ {K V : Type 0} where
 
   last_none : (p : K → Bool) (es : List (K × V)) → AllByRecursion (λ e. p e.0 ≡ false) es → last_where p es ≡ None
   last_none p [] h = refl
-  last_none p (e ∷ es) h = ap (λ o. or_else o (cond (p e.0) (Some e) None)) (last_none p es h.1) ∙ ap (λ b. cond b (Some e) None) h.0
+  last_none p (e ∷ es) h = ap (λ o. option_or o (cond (p e.0) (Some e) None)) (last_none p es h.1) ∙ ap (λ b. cond b (Some e) None) h.0
 
-  or_else_some : (o e : Option (K × V)) → is_some o ≡ true → or_else o e ≡ o
-  or_else_some None e h = absurd (true≢false (sym h))
-  or_else_some (Some x) e h = refl
+  option_or_some : (o e : Option (K × V)) → is_some o ≡ true → option_or o e ≡ o
+  option_or_some None e h = absurd (true≢false (sym h))
+  option_or_some (Some x) e h = refl
 
 module _ {K V : Type 0} (cmp : K → K → Ordering) where
   module _ (Q : K → Type 0) where
@@ -155,14 +144,14 @@ module _ {K V : Type 0} (cmp : K → K → Ordering) where
           entry_at cmp b es ≡ last_where p es
       last_is [] sorted none h = refl
       last_is (x ∷ xs) sorted none h =
-          elim (eq_by_cmp cmp b x.0) as (λ t. eq_by_cmp cmp b x.0 ≡ t → is_some (cond t (Some x) (entry_at cmp b xs)) ≡ true → cond t (Some x) (entry_at cmp b xs) ≡ or_else (last_where p xs) (cond (p x.0) (Some x) None)) [
+          elim (eq_by_cmp cmp b x.0) as (λ t. eq_by_cmp cmp b x.0 ≡ t → is_some (cond t (Some x) (entry_at cmp b xs)) ≡ true → cond t (Some x) (entry_at cmp b xs) ≡ option_or (last_where p xs) (cond (p x.0) (Some x) None)) [
             | true ↦ λ t found.
                 let others : AllByRecursion (λ e. p e.0 ≡ false) xs = all_both (λ e. p e.0 ≡ true → is_gt (cmp e.0 b) ≡ true → ⊥) (λ e. cmp x.0 e.0 ≡ Less) (λ e. p e.0 ≡ false)
                 (λ e never above. is_false (p e.0) (λ pe. never pe (ap is_gt (o.antisymm e.0 b ∙ ap ordering_reverse (o.congr b x.0 e.0 (equal_is _ t) ∙ above))))) xs none.1 (all_above x.0 xs (first _ _ sorted)) in
-                sym (ap (λ t. or_else (last_where p xs) (cond t (Some x) None)) (sym (alike b x.0 (equal_is _ t)) ∙ passes) ∙ ap (λ l. or_else l (Some x)) (last_none p xs others))
+                sym (ap (λ t. option_or (last_where p xs) (cond t (Some x) None)) (sym (alike b x.0 (equal_is _ t)) ∙ passes) ∙ ap (λ l. option_or l (Some x)) (last_none p xs others))
             | false ↦ λ t found.
                 let rest = last_is xs (second _ _ sorted) none.1 found in
-                rest ∙ sym (or_else_some (last_where p xs) (cond (p x.0) (Some x) None) (sym (ap is_some rest) ∙ found))
+                rest ∙ sym (option_or_some (last_where p xs) (cond (p x.0) (Some x) None) (sym (ap is_some rest) ∙ found))
           ] refl h
 
   -- of the changes that were passed, none has a key in the map that lies on that side and is nearer than the best; the best is in the map and on that side

@@ -1,11 +1,11 @@
 -- That what lies on the shelf, and below it, stays as it is while changes and sessions come and go above.
-use Rattle.std.proofs.Common.{◌≡◌, ℕ, suc, ◌+◌, ◌-◌, ◌<◌, ◌≤◌, List, [], ◌∷◌, ◌++◌, take, drop, get_or, length, Option, Some, None, option_map, IfSome, MatchOption, refl, sym, ap, subst, ◌∙◌, Ordering, arith, append_assoc, length-append, length-take-le, take-take}
+use Rattle.std.proofs.Common.{◌≡◌, ℕ, suc, ◌+◌, ◌-◌, ◌<◌, ◌≤◌, List, [], ◌∷◌, ◌++◌, take, get_or, length, Option, Some, None, option_map, IfSome, MatchOption, refl, sym, ap, subst, ◌∙◌, Ordering, arith, length-append, length-take-le, take-take}
 use Rattle.std.proofs.lemmas.List.{take-append-le, get_or-take, drop_all}
 use Rattle.std.proofs.Math.ListN.{get_or-append}
 use Rattle.std.proofs.Math.Seq.{get_or-append_seam}
 use Rattle.std.specs.List.{AllByRecursion}
 use Rattle.ante_undo.specs.Layout.{Layout, IsRising, IsLaid, ends_of, kept_sessions, changes_below, marks_below, Joins, HasShelf, shelf_shown}
-use Rattle.ante_undo.proofs.Lists.{cut_at, rising_at, rising_between, rising_below}
+use Rattle.ante_undo.proofs.Lists.{cut_at, rising_at, rising_between}
 
 -- no map of a layout needs more changes than there are
 pub end_within : {X : Type 0} (changes : List X) (marks : List ℕ) (j : ℕ) → IsRising (marks ++ length changes ∷ []) → j ≤ length marks →

@@ -1,11 +1,10 @@
 -- What each call makes of a layout, and of the stack of maps that it stands for.
-use Rattle.std.proofs.Common.{◌≡◌, ℕ, suc, ◌+◌, ◌-◌, ◌*◌, ◌^◌, ◌<◌, ◌≤◌, List, [], ◌∷◌, ◌++◌, map, take, drop, get_or, length, Option, Some, None, option_map, IfSome, IsNone, true≢false, MatchOption, refl, sym, ap, ap₂, subst, subst₂, ◌∙◌, Ordering, arith, append_assoc, append-nil, add-one, length-append, length-take-le, length-drop, take-take, take-suc, take-append-drop, take_at, add-zero}
-use Rattle.std.proofs.lemmas.List.{take-append-le, drop-append-le, get_or-take, get_or-drop, map-append, take-map, drop-map, length-map, drop-drop}
-use Rattle.std.proofs.Math.ListN.{get_or-append}
+use Rattle.std.proofs.Common.{◌≡◌, ℕ, suc, ◌+◌, ◌-◌, ◌^◌, ◌<◌, ◌≤◌, List, [], ◌∷◌, ◌++◌, map, take, drop, get_or, length, Option, Some, None, option_map, IfSome, IsNone, true≢false, MatchOption, refl, sym, ap, subst, subst₂, ◌∙◌, Ordering, arith, append_assoc, add-one, length-append, length-take-le, length-drop, take-take, take-suc, take-append-drop, take_at, add-zero}
+use Rattle.std.proofs.lemmas.List.{take-append-le, drop-append-le, get_or-drop, map-append, take-map, drop-map, length-map, drop-drop}
 use Rattle.std.proofs.Math.Seq.{get_or-append_seam, take-append_seam, take-length}
 use Rattle.std.specs.List.{AllByRecursion}
 use Rattle.ante_undo.specs.Entries.{changed}
-use Rattle.ante_undo.specs.Stack.{Stack, Shelf, with_top, with_session, begun, committed, without_shelf, maps_of, newest, without_newest, under_top, IsSquashed, IsShelved, IsBroughtBack, IsAbove}
+use Rattle.ante_undo.specs.Stack.{Stack, Shelf, with_top, begun, committed, maps_of, under_top, IsSquashed, IsShelved, IsBroughtBack, IsAbove}
 use Rattle.ante_undo.specs.Changes.{applied, map_at}
 use Rattle.ante_undo.specs.Layout.{Layout, IsRising, IsLaid, ends_of, kept_sessions, changes_below, marks_below, Joins, HasShelf, Stands, shelf_shown, stack_shown}
 use Rattle.ante_undo.proofs.Applied.{applied_append, same_map}

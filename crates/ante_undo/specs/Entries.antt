@@ -1,6 +1,7 @@
 -- A map from keys to values, as the list of its entries in the order of their keys.
 use Rattle.std.specs.Prelude.{Bool, not, List, [], ◌∷◌, Option, Some, None, if◌then◌else◌}
 use Rattle.std.specs.declared.cmp.Ordering.{Ordering}
+use Rattle.std.specs.Option.{option_or}
 use Rattle.std.specs.Ordering.{is_lt, is_gt, is_ge, eq_by_cmp}
 use Rattle.std.specs.FinMap.Entries.{by_order, where_key}
 
@@ -10,15 +11,10 @@ module _ {K V : Type 0} where
   first_where test [] = None
   first_where test (e ∷ es) = if test e.0 then Some e else first_where test es
 
-  -- e, where o is none
-  abbrev pub or_else : Option (K × V) → Option (K × V) → Option (K × V)
-  or_else None e = e
-  or_else (Some x) e = Some x
-
   -- the last of the entries whose keys pass the test
   abbrev pub last_where : (K → Bool) → List (K × V) → Option (K × V)
   last_where test [] = None
-  last_where test (e ∷ es) = or_else (last_where test es) (if test e.0 then Some e else None)
+  last_where test (e ∷ es) = option_or (last_where test es) (if test e.0 then Some e else None)
 
 module _ {K V : Type 0} (cmp : K → K → Ordering) where
   -- the map with the value at the key: the entry stands in its place, and an entry whose key ties with it goes

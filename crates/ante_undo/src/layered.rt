@@ -5,15 +5,23 @@ ghost use Rattle.std.specs.FinMap.Entries.{find, is_sorted};
 ghost use Rattle.ante_undo.specs.Entries.{changed, entry_from, entry_after, entry_before};
 ghost use Rattle.ante_undo.specs.Stack.{opened, with_top, begun, committed, under_top, IsSquashed, without_shelf, IsShelved, IsUnshelved, IsAbove, IsSound};
 
-use crate::changes::{cut_out, newest_at};
+use crate::changes::{cut_out, value_at};
 use crate::neighbours::{Side, nearest};
 use std::alloc::{AllocError, AllocFailed, Global};
 use std::marker::Model;
 
 /// A map with nested sessions.
+///
+/// Contracts see a stack of whole maps: the top is the map as it is, and each open session has
+/// under it the map that it began with. With no session open a change is made for good. A key that
+/// is put again takes the place of the one that it ties with.
+///
+/// The map is kept as its changes, so a look-up goes through them from the newest back. Only `put`,
+/// `remove` and `begin` can be refused memory, and then nothing has changed. No other call takes
+/// any: sessions go to the shelf and come back where they lie.
 #[derive(Drop)]
 pub struct Layered<K: Ord + Copy, V: Drop> {
-    // Every change that stands, the oldest first, and then those on the shelf.
+    // The changes that stand, the oldest first, and then those on the shelf. Each session's are a part of them.
     log: Vec<(K, Option<V>)>,
     // For each session that stands how many changes came before it, and then the same for those on the shelf.
     marks: Vec<usize>,
@@ -21,7 +29,7 @@ pub struct Layered<K: Ord + Copy, V: Drop> {
     standing: usize,
     sessions: usize,
     revision: u64,
-    // The revision that the shelf was made at.
+    // While a shelf is out, the revision that it was made at.
     shelf: Option<u64>,
 }
 
@@ -37,6 +45,7 @@ impl<K: Ord + Copy, V: Drop> Model for Layered<K, V> {
     ghost invariant = { λ s. IsHeld s.log.items s.standing s.marks.items s.sessions s.revision s.shelf };
 }
 
+// The lists keep the allocator that they were made with: the parameter of a call says that it may be refused memory.
 impl<K: Ord + Copy, V: Drop> Layered<K, V> {
     /// An empty map with no session, at the revision.
     pub fn new(alloc: Global, revision: u64) -> Layered<K, V>
@@ -57,10 +66,7 @@ impl<K: Ord + Copy, V: Drop> Layered<K, V> {
     pub fn get(&self, key: &K) -> Option<&V>
         ensures { option_copied result ≡ find K.cmp key.now self.now.top }
     {
-        match newest_at(&self.log[..self.standing], key) {
-            Some((_, value)) => Some(value),
-            None => None,
-        }
+        value_at(&self.log[..self.standing], key)
     }
 
     /// The entry with the least key that is not below the given one.
@@ -165,7 +171,7 @@ impl<K: Ord + Copy, V: Drop> Layered<K, V> {
         ensures { IsSquashed self.old self.new }
     {
         self.sessions -= 1;
-        self.marks.remove(self.sessions);
+        let _ = self.marks.remove(self.sessions);
         self.revision -= 1;
     }
 
@@ -182,7 +188,8 @@ impl<K: Ord + Copy, V: Drop> Layered<K, V> {
         }
     }
 
-    /// Moves the sessions above the revision to the shelf.
+    /// Moves the sessions above the revision to the shelf. Their changes and marks stay where they are:
+    /// they come after all that stands.
     pub fn shelve(&mut self, revision: u64)
         requires no_shelf { IsNone self.old.shelf }
         requires from { self.old.revision ≤ revision + length self.old.under }
@@ -224,7 +231,7 @@ impl<K: Ord + Copy, V: Drop> Layered<K, V> {
         self.shelf = None;
     }
 
-    /// The revision of the newest session, or where none is open the one that the last of them had.
+    /// The revision of the newest session. Where none is open, the next one to begin has the number after it.
     pub fn revision(&self) -> u64
         ensures revision { result ≡ self.now.revision }
         ensures sound { IsSound self.now }
@@ -246,10 +253,7 @@ impl<K: Ord + Copy, V: Drop> Layered<K, V> {
         ensures { option_copied result ≡ find K.cmp key.now (under_top self.now) }
     {
         let end = self.marks[self.sessions - 1];
-        match newest_at(&self.log[..end], key) {
-            Some((_, value)) => Some(value),
-            None => None,
-        }
+        value_at(&self.log[..end], key)
     }
 }
 

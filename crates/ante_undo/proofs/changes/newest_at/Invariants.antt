@@ -1,4 +1,4 @@
-use Rattle.std.proofs.Common.{◌≡◌, ℕ, ◌≤◌, [], take, length}
+use Rattle.std.proofs.Common.{◌≡◌, ◌≤◌, [], length}
 use Rattle.ante_undo.specs.Entries.{entry_at}
 use Rattle.ante_undo.specs.Changes.{applied, map_at}
 use Rattle.ante_undo.proofs.changes.newest_at.Given as goal

@@ -1,4 +1,4 @@
-use Rattle.std.proofs.Common.{◌≡◌, [], Some, None, take_all, ◌∙◌, subst₂}
+use Rattle.std.proofs.Common.{[], take_all, ◌∙◌, subst₂}
 use Rattle.ante_undo.specs.Changes.{applied}
 use Rattle.ante_undo.proofs.Nearest.{IsNearest, nearest_some, nearest_none, nearest_more}
 use Rattle.ante_undo.proofs.neighbours.nearest.Goals as goal

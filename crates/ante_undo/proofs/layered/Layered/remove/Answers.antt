@@ -1,4 +1,4 @@
-use Rattle.std.proofs.Common.{◌≡◌, true, false, true≢false, is_some, Option, Some, None, option_map, sym, ap, ◌∙◌}
+use Rattle.std.proofs.Common.{◌≡◌, false, true≢false, is_some, Option, Some, None, option_map, sym, ap}
 use Rattle.ante_undo.specs.Stack.{with_top}
 use Rattle.ante_undo.proofs.Entries.{without_absent}
 use Rattle.ante_undo.proofs.layered.Layered.remove.Goals as goal
