@@ -130,13 +130,18 @@ after_piece reader position p h (More frame) = (record (p.0) { held = with_frame
 after_piece reader position p h (Ready reply) =
     (taken_from reader (p.0), p.1 ++ (record { job = h.job; position = position; reply = reply }) ∷ [])
 
--- Advance stands in a window, for a reader with a job. It runs one piece of the job on the present world.
-abbrev pub advance_row : {W X J F R : Type 0} → Meaning W X J F R → W → ℕ → ℕ → WindowState F × List (DoneJob R) → Option (WindowState F × List (DoneJob R))
-advance_row m world position reader p =
+-- one piece of the reader's job on the present world, for a reader with a job
+abbrev pub piece_row : {W X J F R : Type 0} → Meaning W X J F R → W → ℕ → ℕ → WindowState F × List (DoneJob R) → Option (WindowState F × List (DoneJob R))
+piece_row m world position reader p =
     option_map (λ h. after_piece reader position p h (m.advanced world h.frame)) (held_by reader (p.0).held)
 
 abbrev pub with_window_and_done : {W J F R : Type 0} → State W J F R → WindowState F × List (DoneJob R) → State W J F R
 with_window_and_done s p = record s { window = Some (p.0); done = p.1 }
+
+-- Advance stands in a window, for a reader with a job. It runs one piece of the job on the present world.
+abbrev pub advance_row : {W X J F R : Type 0} → Meaning W X J F R → State W J F R → ℕ → Option (State W J F R)
+advance_row m s reader =
+    of_window s (λ w. option_map (with_window_and_done s) (piece_row m s.world s.position reader (w, s.done)))
 
 -- Cut stands in a window that is rung, for a reader with a job. It takes the job away and drops its frame.
 abbrev pub cut_row : {F : Type 0} → ℕ → WindowState F → Option (WindowState F)
@@ -158,8 +163,7 @@ core_step m s (Begin deadline) = begin_row s deadline
 core_step m s (Claim reader) = in_window s (claim_row m s.world s.jobs reader)
 core_step m s (Look reader) = in_window s look_row
 core_step m s (Ring reader moment) = in_window s (ring_row moment)
-core_step m s (Advance reader) =
-    of_window s (λ w. option_map (with_window_and_done s) (advance_row m s.world s.position reader (w, s.done)))
+core_step m s (Advance reader) = advance_row m s reader
 core_step m s (Cut reader) = in_window s (cut_row reader)
 core_step m s Close = of_window s (close_row s)
 

@@ -1,15 +1,16 @@
 -- Soundness, which every step keeps.
-use Rattle.std.specs.Prelude.{◌≡◌, ℕ, zero, suc, ◌<◌, ◌≤◌, ⊤, false, List, [], ◌∷◌, length, map, slice_get, Option, Some, None, IfSome, IsNone, option_and_then, ◌≢◌}
+use Rattle.std.specs.Prelude.{◌≡◌, ℕ, zero, suc, ◌<◌, ◌≤◌, ⊤, false, List, [], ◌∷◌, length, slice_get, Option, Some, None, IfSome, IsNone, option_and_then, ◌≢◌}
 use Rattle.std.specs.List.{AllByRecursion}
 use Rattle.ante_core.specs.declared.Piece.{Piece}
 use Rattle.ante_core.specs.declared.Piece.TheVariants.{More, Ready}
+use Rattle.ante_core.specs.declared.DoneJob.{DoneJob}
 use Rattle.ante_core.specs.declared.window.Held.{Held}
 use Rattle.ante_core.specs.Machine.{Meaning, State, WindowState, is_done}
 
--- no number stands twice in the list
-abbrev pub AreApart : List ℕ → Type 0
-AreApart [] = ⊤
-AreApart (n ∷ ns) = AllByRecursion (λ k. n ≢ k) ns × AreApart ns
+-- no two elements of the list have the same number
+abbrev pub ApartBy : {A : Type 0} → (A → ℕ) → List A → Type 0
+ApartBy number [] = ⊤
+ApartBy number (x ∷ xs) = AllByRecursion (λ y. number x ≢ number y) xs × ApartBy number xs
 
 -- the frame that a piece of work gives, if it doesn't give the reply
 abbrev pub next_frame : {F R : Type 0} → Piece F R → Option F
@@ -39,39 +40,37 @@ pub record IsDrawn (listed : List ℕ) (drawn job : ℕ) : Type 0 where
 abbrev pub IsAscending : List ℕ → Type 0
 IsAscending listed = (i j a b : ℕ) → i < j → slice_get listed i ≡ Some a → slice_get listed j ≡ Some b → a < b
 
--- A window is sound in its state.
-pub record IsSoundWindow {W X J F R : Type 0} (m : Meaning W X J F R) (s : State W J F R) (w : WindowState F) : Type 0 where
+-- A window is sound over the world, the jobs taken and the done list of its state.
+pub record IsSoundWindow {W X J F R : Type 0} (m : Meaning W X J F R) (world : W) (jobs : List J) (done : List (DoneJob R)) (w : WindowState F) : Type 0 where
   -- its list is ascending, and its jobs were taken
   pub ascending : IsAscending w.listed
-  pub taken : (place job : ℕ) → slice_get w.listed place ≡ Some job → job < length s.jobs
+  pub taken : (place job : ℕ) → slice_get w.listed place ≡ Some job → job < length jobs
   -- the jobs at places from the count drawn on aren't done
-  pub undrawn : (place job : ℕ) → w.drawn ≤ place → slice_get w.listed place ≡ Some job → is_done s.done job ≡ false
+  pub undrawn : (place job : ℕ) → w.drawn ≤ place → slice_get w.listed place ≡ Some job → is_done done job ≡ false
   -- a moment rung is at least the deadline
   pub rung : IfSome w.rung (λ moment. w.deadline ≤ moment)
   -- each frame is what some number of pieces on the present world make of its job
-  pub frames : AllByRecursion (IsReached m s.world s.jobs) w.held
+  pub frames : AllByRecursion (IsReached m world jobs) w.held
   -- a reader has at most one job; readers' jobs are distinct, stand in the list at places below the count drawn,
   -- and aren't done
-  pub readers : AreApart (map (λ h. h.reader) w.held)
-  pub distinct : AreApart (map (λ h. h.job) w.held)
+  pub readers : ApartBy (λ h. h.reader) w.held
+  pub distinct : ApartBy (λ h. h.job) w.held
   pub drawn : AllByRecursion (λ h. IsDrawn w.listed w.drawn h.job) w.held
-  pub undone : AllByRecursion (λ h. is_done s.done h.job ≡ false) w.held
+  pub undone : AllByRecursion (λ h. is_done done h.job ≡ false) w.held
 
--- the jobs in readers' hands
-abbrev pub in_hand : {W J F R : Type 0} → State W J F R → List (Held F)
-in_hand s = held_in s.window where
-  held_in : {F : Type 0} → Option (WindowState F) → List (Held F)
-  held_in None = []
-  held_in (Some w) = w.held
+-- the jobs in the hands of a window's readers
+abbrev pub held_in : {F : Type 0} → Option (WindowState F) → List (Held F)
+held_in None = []
+held_in (Some w) = w.held
 
 -- A state is sound.
 pub record IsSound {W X J F R : Type 0} (m : Meaning W X J F R) (s : State W J F R) : Type 0 where
   -- no more jobs were taken than can be numbered
   pub numbered : length s.jobs ≤ 4294967295
   -- the window is sound, and without a window no reader has a job
-  pub window : IfSome s.window (IsSoundWindow m s)
-  pub free : IsNone s.window → in_hand s ≡ []
+  pub window : IfSome s.window (IsSoundWindow m s.world s.jobs s.done)
+  pub free : IsNone s.window → held_in s.window ≡ []
   -- done jobs were taken and are distinct, and their positions are at most the present one
   pub done_taken : AllByRecursion (λ d. d.job < length s.jobs) s.done
-  pub done_distinct : AreApart (map (λ d. d.job) s.done)
+  pub done_distinct : ApartBy (λ d. d.job) s.done
   pub done_before : AllByRecursion (λ d. d.position ≤ s.position) s.done

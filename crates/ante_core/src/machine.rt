@@ -2,7 +2,7 @@
 
 ghost use Rattle.std.specs.Prelude.{◌≡◌, None, Some, length, IfOk, ◌<◌, ◌^◌};
 ghost use Rattle.ante_core.specs.Answers.{Answers};
-ghost use Rattle.ante_core.specs.Machine.{start, core_step, core_starved, take_row, apply_row, begin_row, claim_row, look_row, ring_row, cut_row, close_row, in_window, of_window, starved_advance, waiting_jobs, waiting_below, is_done};
+ghost use Rattle.ante_core.specs.Machine.{start, core_step, core_starved, take_row, apply_row, begin_row, claim_row, look_row, ring_row, advance_row, cut_row, close_row, in_window, of_window, starved_advance, waiting_jobs, waiting_below, is_done};
 
 use crate::window::{Window, advance, claim};
 use crate::{Actor, DoneJob, Event, StepError};
@@ -157,7 +157,7 @@ impl<A: Actor> Machine<A> {
     }
 
     fn advance(&mut self, alloc: Global, reader: u32) -> Result<(), StepError>
-        ensures { Answers (core_step (record { applied = A.applied; begun = A.begun; advanced = A.advanced }) self.old (Event.Advance reader)) (starved_advance self.old reader) self.old self.new result }
+        ensures { Answers (advance_row (record { applied = A.applied; begun = A.begun; advanced = A.advanced }) self.old reader) (starved_advance self.old reader) self.old self.new result }
     {
         match &mut self.window {
             Some(window) => advance::<A>(alloc, window, &mut self.done, &self.world, self.position, reader),

@@ -2,7 +2,7 @@
 
 ghost use Rattle.std.specs.Prelude.{◌≡◌, None, Some, ◌+◌, ◌≤◌, length, IfSome, IfNone, is_some, vec_len, insert, [], ◌∷◌, ◌++◌};
 ghost use Rattle.ante_core.specs.Answers.{Answers, AnswersNoMemory};
-ghost use Rattle.ante_core.specs.Machine.{held_by, claim_row, ring_row, advance_row, taken_from, cut_row};
+ghost use Rattle.ante_core.specs.Machine.{held_by, claim_row, ring_row, piece_row, taken_from, cut_row};
 ghost use Rattle.ante_core.specs.Shown.{shown_window};
 ghost use Rattle.ante_core.specs.Place.{IsAt};
 
@@ -91,7 +91,7 @@ pub fn claim<A: Actor>(alloc: Global, window: &mut Window<A::Frame>, world: &A::
 
 /// Runs one piece of the reader's job. Where memory is refused, the reader has lost the job.
 pub fn advance<A: Actor>(alloc: Global, window: &mut Window<A::Frame>, done: &mut Vec<DoneJob<A::Reply>>, world: &A::World, position: u64, reader: u32) -> Result<(), StepError>
-    ensures { Answers (advance_row (record { applied = A.applied; begun = A.begun; advanced = A.advanced }) world.now position reader (shown_window window.old, done.old.items)) (taken_from reader (shown_window window.old), done.old.items) (shown_window window.old, done.old.items) (shown_window window.new, done.new.items) result }
+    ensures { Answers (piece_row (record { applied = A.applied; begun = A.begun; advanced = A.advanced }) world.now position reader (shown_window window.old, done.old.items)) (taken_from reader (shown_window window.old), done.old.items) (shown_window window.old, done.old.items) (shown_window window.new, done.new.items) result }
 {
     let Some(place) = place_of(&window.held, reader) else {
         return Err(StepError::NotNow);

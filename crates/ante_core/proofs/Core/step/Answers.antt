@@ -1,0 +1,10 @@
+use Rattle.std.proofs.Common.{subst}
+use Rattle.ante_core.specs.Sound.{IsSound}
+use Rattle.ante_core.proofs.Kept.{answers-sound}
+use Rattle.ante_core.proofs.Core.step.Goals as goal
+
+pub invariant_of-self : goal.invariant_of-self
+invariant_of-self g c = answers-sound _ c.self.inside.machine c.args.event c.step.new.self c.step.result c.self.invariant c.step.ensures
+
+pub returns-clause-sound : goal.returns-clause-sound
+returns-clause-sound g c = answers-sound _ c.self.inside.machine c.args.event c.step.new.self c.step.result c.self.invariant c.step.ensures
