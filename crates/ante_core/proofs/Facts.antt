@@ -8,9 +8,9 @@ use Rattle.ante_core.specs.declared.Event.{Event}
 use Rattle.ante_core.specs.declared.Event.TheVariants.{Take, Apply, Begin, Claim, Look, Ring, Advance, Cut, Close}
 use Rattle.ante_core.specs.declared.DoneJob.{DoneJob}
 use Rattle.ante_core.specs.declared.window.Held.{Held}
-use Rattle.ante_core.specs.Machine.{Meaning, State, WindowState, held_by, without, with_window, with_window_and_done, in_window, take_row, apply_row, begin_row, next_held, with_drawn, claim_row, look_row, ring_row, taken_from, after_piece, advance_row, cut_row, is_empty, close_row, starved_advance, waiting_jobs, core_step, core_starved}
+use Rattle.ante_core.specs.Machine.{Meaning, State, WindowState, most_jobs, held_by, without, with_window, with_window_and_done, in_window, take_row, apply_row, begin_row, next_held, with_drawn, claim_row, look_row, ring_row, taken_from, after_piece, advance_row, cut_row, is_empty, close_row, starved_advance, waiting_jobs, core_step, core_starved}
 use Rattle.ante_core.specs.Sound.{ApartBy, IsSoundWindow, IsSound}
-use Rattle.ante_core.specs.Runs.{after, write_of, writes_by, world_after, job_of}
+use Rattle.ante_core.specs.Runs.{after_event, write_of, writes_by, world_after, job_of}
 use Rattle.ante_core.proofs.Rows.{Mapped, mapped, Chained, chained, InWindow, in_window-some, IsNext, next_held-some, Advanced, advance_row-some}
 use Rattle.ante_core.proofs.Hands.{job_in, job_in-without, job_in-with_frame, job_in-push}
 use Rattle.ante_core.proofs.Kept.{if_some-at}
@@ -24,8 +24,8 @@ module _ {W J F R : Type 0} (s : State W J F R) where
   no_window-free : (reader job : ℕ) → is_none s.window ≡ true → job_of s reader ≡ Some job → ⊥
   no_window-free reader job none held =
       (elim s.window as (λ o. is_none o ≡ true → option_map (λ h. h.job) (option_and_then (λ w. held_by reader w.held) o) ≡ Some job → ⊥) [
-        None ↦ λ _ held. none-some job held
-      | Some w ↦ λ e _. true≢false (sym e)
+        | None ↦ λ _ held. none-some job held
+        | Some w ↦ λ e _. true≢false (sym e)
       ]) none held
 
 module _ {A W X J F R : Type 0} (m : Meaning W X J F R) (s : State W J F R) where
@@ -84,7 +84,7 @@ module _ {A W X J F R : Type 0} (m : Meaning W X J F R) where
 module _ {W X J F R : Type 0} (A : Type 0) (m : Meaning W X J F R) where
   take-facts : (s : State W J F R) (job : J) (new : State W J F R) → take_row s job ≡ Some new → Facts {A = A} m s (Take job, false) new []
   take-facts s job new e =
-      let p = cond_some (is_none s.window && nat_lt (length s.jobs) 4294967295) (record s { jobs = s.jobs ++ job ∷ [] }) new e in
+      let p = cond_some (is_none s.window && nat_lt (length s.jobs) most_jobs) (record s { jobs = s.jobs ++ job ∷ [] }) new e in
       subst (λ (new : State W J F R). Facts {A = A} m s (Take job, false) new []) p.1 (record {
         world = refl;
         position = sym (add-zero s.position);
@@ -123,19 +123,19 @@ module _ {W X J F R : Type 0} (A : Type 0) (m : Meaning W X J F R) where
       let p = cond_some (is_none (held_by reader w.held)) (unwrap_or (option_map (with_drawn w) (next_held m s.world s.jobs reader w)) w) i.becomes i.stands in
       subst (λ (new : State W J F R). Facts {A = A} m s (Claim reader, false) new []) (ap (with_window s) p.1 ∙ i.is_new)
       ((elim (next_held m s.world s.jobs reader w) as (λ o. next_held m s.world s.jobs reader w ≡ o → Facts {A = A} m s (Claim reader, false) (with_window s (unwrap_or (option_map (with_drawn w) o) w)) []) [
-        None ↦ λ _. facts-window m s (Claim reader, false) w w i.is_window (λ _ _ held. held)
-      | Some h ↦ λ next. record {
+        | None ↦ λ _. facts-window m s (Claim reader, false) w w i.is_window (λ _ _ held. held)
+        | Some h ↦ λ next. record {
           world = refl;
           position = sym (add-zero s.position);
           jobs = inl refl;
           done = inl refl;
           hands = λ other job held. elim (job_in-push other job w.held h held) [
-              inl before ↦ inl (record { held = rw i.is_window before; no_write = refl })
+            | inl before ↦ inl (record { held = rw i.is_window before; no_write = refl })
             | inr new ↦
-              let n = next_held-some m s.world s.jobs reader w h next in
-              let mine : reader ≡ other = ap (λ (k : Held F). k.reader) n.is ∙ new.1 in
-              inr (record { is = ap (λ (k : ℕ). (Claim k, false)) mine; free = rw i.is_window new.0 })
-            ];
+                let n = next_held-some m s.world s.jobs reader w h next in
+                let mine : reader ≡ other = ap (λ (k : Held F). k.reader) n.is ∙ new.1 in
+                inr (record { is = ap (λ (k : ℕ). (Claim k, false)) mine; free = rw i.is_window new.0 })
+          ];
         }
       ]) refl)
 
@@ -147,14 +147,14 @@ module _ {W X J F R : Type 0} (A : Type 0) (m : Meaning W X J F R) where
       let was : IsSoundWindow m s.world s.jobs s.done w = if_some-at s.window (IsSoundWindow m s.world s.jobs s.done) w a.is_window sound.window in
       subst (λ (new : State W J F R). Facts {A = A} m s (Advance reader, false) new []) a.is_new
       ((elim (m.advanced s.world h.frame) as (λ piece. m.advanced s.world h.frame ≡ piece → Facts {A = A} m s (Advance reader, false) (with_window_and_done s (after_piece reader s.position (w, s.done) h piece)) []) [
-        More frame ↦ λ piece. record {
+        | More frame ↦ λ piece. record {
           world = refl;
           position = sym (add-zero s.position);
           jobs = inl refl;
           done = inl refl;
           hands = λ other job held. inl (record { held = rw a.is_window (sym (job_in-with_frame reader other frame w.held) ∙ held); no_write = refl });
         }
-      | Ready reply ↦ λ piece. record {
+        | Ready reply ↦ λ piece. record {
           world = refl;
           position = sym (add-zero s.position);
           jobs = inl refl;
@@ -206,8 +206,8 @@ module _ {W X J F R : Type 0} (A : Type 0) (m : Meaning W X J F R) where
     done = inl refl;
     hands = λ other job held. inl (record {
       held = (elim s.window as (λ o. s.window ≡ o → option_map (λ h. h.job) (option_and_then (λ w. held_by other w.held) (option_map (taken_from reader) o)) ≡ Some job → option_map (λ h. h.job) (option_and_then (λ w. held_by other w.held) o) ≡ Some job) [
-        None ↦ λ _ held. held
-      | Some w ↦ λ is held. job_in-without reader other job w.held (if_some-at s.window (IsSoundWindow m s.world s.jobs s.done) w is sound.window).readers held
+        | None ↦ λ _ held. held
+        | Some w ↦ λ is held. job_in-without reader other job w.held (if_some-at s.window (IsSoundWindow m s.world s.jobs s.done) w is sound.window).readers held
       ]) refl held;
       no_write = refl;
     });
@@ -240,11 +240,11 @@ module _ {A W X J F R : Type 0} (m : Meaning W X J F R) where
   starved_writes s event =
       elim (is_some (core_step m s event)) as (λ b. cond (b && false) (write_of event) [] ≡ []) [ true ↦ refl | false ↦ refl ]
 
-  pub facts : (s : State W J F R) (e : Event A W X J F R × Bool) → IsSound m s → Facts {A = A} m s e (after m s e) (writes_by m s e)
+  pub facts : (s : State W J F R) (e : Event A W X J F R × Bool) → IsSound m s → Facts {A = A} m s e (after_event m s e) (writes_by m s e)
   facts s (event, true) sound =
       subst (Facts {A = A} m s (event, true) (core_starved s event)) (sym (starved_writes s event)) (starved-facts s event sound)
   facts s (event, false) sound =
       (elim (core_step m s event) as (λ o. core_step m s event ≡ o → Facts {A = A} m s (event, false) (unwrap_or o s) (cond (is_some o && true) (write_of event) [])) [
-        None ↦ λ _. facts-same m s (event, false)
-      | Some new ↦ λ is. step-facts s event new sound is
+        | None ↦ λ _. facts-same m s (event, false)
+        | Some new ↦ λ is. step-facts s event new sound is
       ]) refl

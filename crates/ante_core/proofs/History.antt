@@ -9,7 +9,7 @@ use Rattle.ante_core.specs.declared.DoneJob.{DoneJob}
 use Rattle.ante_core.specs.declared.window.Held.{Held}
 use Rattle.ante_core.specs.Machine.{Meaning, State, WindowState, start, held_by, core_step}
 use Rattle.ante_core.specs.Sound.{IsReached, IsSoundWindow, IsSound}
-use Rattle.ante_core.specs.Runs.{after, run, writes_by, writes_of, world_after, Alone, job_of}
+use Rattle.ante_core.specs.Runs.{after_event, run, writes_by, writes_of, world_after, Alone, job_of}
 use Rattle.ante_core.specs.Law.{HandsOut, StaysInHand, IsTaken, IsClaimed, IsFinished, IsServed, EveryJobIsServed}
 use Rattle.ante_core.proofs.Lists.{all-push, all-both, all-held, slice_get-push, slice_get-append}
 use Rattle.ante_core.proofs.Hands.{one_reader}
@@ -24,30 +24,30 @@ module _ {W X J F R : Type 0} (m : Meaning W X J F R) where
 module _ {A W X J F R : Type 0} (m : Meaning W X J F R) where
   pub run-append : (s : State W J F R) (es rest : List (Event A W X J F R × Bool)) → run m s (es ++ rest) ≡ run m (run m s es) rest
   run-append s [] rest = refl
-  run-append s (e ∷ es) rest = run-append (after m s e) es rest
+  run-append s (e ∷ es) rest = run-append (after_event m s e) es rest
 
   pub writes_of-push : (s : State W J F R) (es : List (Event A W X J F R × Bool)) (e : Event A W X J F R × Bool) → writes_of m s (es ++ e ∷ []) ≡ writes_of m s es ++ writes_by m (run m s es) e
   writes_of-push s [] e = append-nil (writes_by m s e)
   writes_of-push s (x ∷ es) e =
-      ap (λ (ws : List X). writes_by m s x ++ ws) (writes_of-push (after m s x) es e) ∙ sym (append_assoc (writes_by m s x) (writes_of m (after m s x) es) (writes_by m (run m (after m s x) es) e))
+      ap (λ (ws : List X). writes_by m s x ++ ws) (writes_of-push (after_event m s x) es e) ∙ sym (append_assoc (writes_by m s x) (writes_of m (after_event m s x) es) (writes_by m (run m (after_event m s x) es) e))
 
-  pub after-sound : (s : State W J F R) (e : Event A W X J F R × Bool) → IsSound m s → IsSound m (after m s e)
+  pub after-sound : (s : State W J F R) (e : Event A W X J F R × Bool) → IsSound m s → IsSound m (after_event m s e)
   after-sound s (event, true) sound = core_starved-sound m s event sound
   after-sound s (event, false) sound =
       (elim (core_step m s event) as (λ o. core_step m s event ≡ o → IsSound m (unwrap_or o s)) [
-        None ↦ λ _. sound
-      | Some new ↦ λ is. step-sound m s event new sound is
+        | None ↦ λ _. sound
+        | Some new ↦ λ is. step-sound m s event new sound is
       ]) refl
 
   pub run-sound : (s : State W J F R) (es : List (Event A W X J F R × Bool)) → IsSound m s → IsSound m (run m s es)
   run-sound s [] sound = sound
-  run-sound s (e ∷ es) sound = run-sound (after m s e) es (after-sound s e sound)
+  run-sound s (e ∷ es) sound = run-sound (after_event m s e) es (after-sound s e sound)
 
   -- one more event while the job stays in hand
-  pub stays-push : (reader job : ℕ) (s : State W J F R) (es : List (Event A W X J F R × Bool)) (e : Event A W X J F R × Bool) → StaysInHand m reader job s es → writes_by m (run m s es) e ≡ [] → ((other : ℕ) → HandsOut m (run m s es) e other job → ⊥) → job_of (after m (run m s es) e) reader ≡ Some job → StaysInHand m reader job s (es ++ e ∷ [])
+  pub stays-push : (reader job : ℕ) (s : State W J F R) (es : List (Event A W X J F R × Bool)) (e : Event A W X J F R × Bool) → StaysInHand m reader job s es → writes_by m (run m s es) e ≡ [] → ((other : ℕ) → HandsOut m (run m s es) e other job → ⊥) → job_of (after_event m (run m s es) e) reader ≡ Some job → StaysInHand m reader job s (es ++ e ∷ [])
   stays-push reader job s [] e stays no_write kept held = (stays, no_write, kept, held)
   stays-push reader job s (x ∷ es) e stays no_write kept held =
-      (stays.0, stays.1, stays.2, stays-push reader job (after m s x) es e stays.3 no_write kept held)
+      (stays.0, stays.1, stays.2, stays-push reader job (after_event m s x) es e stays.3 no_write kept held)
 
 -- the held job behind a reader's number of it
 pub record InHand {W J F R : Type 0} (s : State W J F R) (reader job : ℕ) : Type 0 where
@@ -60,10 +60,10 @@ pub record InHand {W J F R : Type 0} (s : State W J F R) (reader job : ℕ) : Ty
 pub in_hand : {W J F R : Type 0} (s : State W J F R) (reader job : ℕ) → job_of s reader ≡ Some job → InHand s reader job
 in_hand s reader job e =
     (elim s.window as (λ o. s.window ≡ o → option_map (λ h. h.job) (option_and_then (λ w. held_by reader w.held) o) ≡ Some job → InHand s reader job) [
-      None ↦ λ _ e. absurd (none-some job e)
-    | Some w ↦ λ is e. (elim (held_by reader w.held) as (λ o. held_by reader w.held ≡ o → option_map (λ h. h.job) o ≡ Some job → InHand s reader job) [
-        None ↦ λ _ e. absurd (none-some job e)
-      | Some h ↦ λ held e. record { window = w; is_window = is; held = h; is_held = held; is_job = same_Some h.job job e }
+      | None ↦ λ _ e. absurd (none-some job e)
+      | Some w ↦ λ is e. (elim (held_by reader w.held) as (λ o. held_by reader w.held ≡ o → option_map (λ h. h.job) o ≡ Some job → InHand s reader job) [
+        | None ↦ λ _ e. absurd (none-some job e)
+        | Some h ↦ λ held e. record { window = w; is_window = is; held = h; is_held = held; is_job = same_Some h.job job e }
       ]) refl e
     ]) refl e
 
@@ -106,7 +106,7 @@ module _ {A W X J F R : Type 0} (m : Meaning W X J F R) (world : W) (past : List
   abbrev makes : List X
   makes = writes_by m before e
 
-  is_run : run m (start world) (past ++ e ∷ []) ≡ after m before e
+  is_run : run m (start world) (past ++ e ∷ []) ≡ after_event m before e
   is_run = run-append m (start world) past (e ∷ [])
 
   are_writes : writes_of m (start world) (past ++ e ∷ []) ≡ made ++ makes
@@ -130,7 +130,7 @@ module _ {A W X J F R : Type 0} (m : Meaning W X J F R) (world : W) (past : List
       }
 
   -- the event takes the job
-  takes-now : (t : TakesJob m before e (after m before e)) → WasTaken m world (past ++ e ∷ []) (length before.jobs) t.value
+  takes-now : (t : TakesJob m before e (after_event m before e)) → WasTaken m world (past ++ e ∷ []) (length before.jobs) t.value
   takes-now t = record {
     taken = record {
       before = past;
@@ -142,34 +142,34 @@ module _ {A W X J F R : Type 0} (m : Meaning W X J F R) (world : W) (past : List
     before = omega (arith, more_writes);
   }
 
-  module _ (h : History m world past) (f : Facts m before e (after m before e) makes) where
-    next-sound : IsSound m (after m before e)
+  module _ (h : History m world past) (f : Facts m before e (after_event m before e) makes) where
+    next-sound : IsSound m (after_event m before e)
     next-sound = after-sound m before e h.sound
 
-    next-world : (after m before e).world ≡ world_after m world (made ++ makes)
+    next-world : (after_event m before e).world ≡ world_after m world (made ++ makes)
     next-world = f.world ∙ ap (λ (w : W). world_after m w makes) h.is_world ∙ sym (world_after-append m world made makes)
 
-    next-position : (after m before e).position ≡ length (made ++ makes)
+    next-position : (after_event m before e).position ≡ length (made ++ makes)
     next-position = omega (arith, f.position, h.is_position, length-append made makes)
 
-    next-taken : (job : ℕ) (value : J) → slice_get (after m before e).jobs job ≡ Some value → WasTaken m world (past ++ e ∷ []) job value
+    next-taken : (job : ℕ) (value : J) → slice_get (after_event m before e).jobs job ≡ Some value → WasTaken m world (past ++ e ∷ []) job value
     next-taken job value at = elim f.jobs [
-        inl same ↦ taken-push job value (h.taken job value (subst (λ (l : List J). slice_get l job ≡ Some value) same at))
+      | inl same ↦ taken-push job value (h.taken job value (subst (λ (l : List J). slice_get l job ≡ Some value) same at))
       | inr t ↦ elim (slice_get-push before.jobs t.value value job (subst (λ (l : List J). slice_get l job ≡ Some value) t.jobs at)) [
-          inl found ↦ taken-push job value (h.taken job value found)
+        | inl found ↦ taken-push job value (h.taken job value found)
         | inr last ↦ subst (λ (k : ℕ). WasTaken m world (past ++ e ∷ []) k value) (sym last.0) (subst (WasTaken m world (past ++ e ∷ []) (length before.jobs)) last.1 (takes-now t))
-        ]
       ]
+    ]
 
     -- the event leaves the job in the reader's hands, and hands it to nobody
-    keeps-now : (reader job : ℕ) → KeepsJob before makes reader job → job_of (after m before e) reader ≡ Some job → IsClaimed m world (past ++ e ∷ []) reader job
+    keeps-now : (reader job : ℕ) → KeepsJob before makes reader job → job_of (after_event m before e) reader ≡ Some job → IsClaimed m world (past ++ e ∷ []) reader job
     keeps-now reader job keeps held =
         let c = h.claimed reader job keeps.held in
         let first : List (Event A W X J F R × Bool) = c.before ++ (Claim reader, false) ∷ [] in
         let whole : past ≡ first ++ c.between = c.split ∙ sym (append_assoc c.before ((Claim reader, false) ∷ []) c.between) in
         let there : before ≡ run m (run m (start world) first) c.between = ap (λ (l : List (Event A W X J F R × Bool)). run m (start world) l) whole ∙ run-append m (start world) first c.between in
-        let P : State W J F R → Type 0 = λ s. (writes_by m s e ≡ []) × ((other : ℕ) → HandsOut m s e other job → ⊥) × (job_of (after m s e) reader ≡ Some job) in
-        let here : P before = (keeps.no_write, (λ other hands. let same : reader ≡ other = in_one_hand m (after m before e) reader other job next-sound held hands.1 in absurd (none-some job (sym hands.0 ∙ subst (λ (r : ℕ). job_of before r ≡ Some job) same keeps.held))), held) in
+        let P : State W J F R → Type 0 = λ s. (writes_by m s e ≡ []) × ((other : ℕ) → HandsOut m s e other job → ⊥) × (job_of (after_event m s e) reader ≡ Some job) in
+        let here : P before = (keeps.no_write, (λ other hands. let same : reader ≡ other = in_one_hand m (after_event m before e) reader other job next-sound held hands.1 in absurd (none-some job (sym hands.0 ∙ subst (λ (r : ℕ). job_of before r ≡ Some job) same keeps.held))), held) in
         let moved : P (run m (run m (start world) first) c.between) = subst P there here in
         record {
           before = c.before;
@@ -180,9 +180,9 @@ module _ {A W X J F R : Type 0} (m : Meaning W X J F R) (world : W) (past : List
         }
 
     -- the event is the reader's claim
-    claims-now : (reader job : ℕ) → ClaimsJob m before e reader → job_of (after m before e) reader ≡ Some job → IsClaimed m world (past ++ e ∷ []) reader job
+    claims-now : (reader job : ℕ) → ClaimsJob m before e reader → job_of (after_event m before e) reader ≡ Some job → IsClaimed m world (past ++ e ∷ []) reader job
     claims-now reader job claims held =
-        let here : job_of (after {A = A} m before (Claim reader, false)) reader ≡ Some job = subst (λ (x : Event A W X J F R × Bool). job_of (after m before x) reader ≡ Some job) claims.is held in
+        let here : job_of (after_event {A = A} m before (Claim reader, false)) reader ≡ Some job = subst (λ (x : Event A W X J F R × Bool). job_of (after_event m before x) reader ≡ Some job) claims.is held in
         record {
           before = past;
           between = [];
@@ -191,7 +191,7 @@ module _ {A W X J F R : Type 0} (m : Meaning W X J F R) (world : W) (past : List
           stays = subst (λ (s : State W J F R). job_of s reader ≡ Some job) (sym (run-append m (start world) past ((Claim reader, false) ∷ []))) here;
         }
 
-    next-claimed : (reader job : ℕ) → job_of (after m before e) reader ≡ Some job → IsClaimed m world (past ++ e ∷ []) reader job
+    next-claimed : (reader job : ℕ) → job_of (after_event m before e) reader ≡ Some job → IsClaimed m world (past ++ e ∷ []) reader job
     next-claimed reader job held = elim (f.hands reader job held) [ inl keeps ↦ keeps-now reader job keeps held | inr claims ↦ claims-now reader job claims held ]
 
     -- a job that was done before
@@ -214,7 +214,7 @@ module _ {A W X J F R : Type 0} (m : Meaning W X J F R) (world : W) (past : List
         }
 
     -- the job that the event finishes
-    served-now : (t : FinishesJob m before e (after m before e)) → IsServed m world (past ++ e ∷ []) (record { job = (t.held).job; position = before.position; reply = t.reply })
+    served-now : (t : FinishesJob m before e (after_event m before e)) → IsServed m world (past ++ e ∷ []) (record { job = (t.held).job; position = before.position; reply = t.reply })
     unfolding taken-push
     served-now t =
         let w : IsSoundWindow m before.world before.jobs before.done t.window = if_some-at before.window (IsSoundWindow m before.world before.jobs before.done) t.window t.is_window (h.sound).window in
@@ -240,12 +240,12 @@ module _ {A W X J F R : Type 0} (m : Meaning W X J F R) (world : W) (past : List
           };
         }
 
-    next-served : AllByRecursion (IsServed m world (past ++ e ∷ [])) (after m before e).done
+    next-served : AllByRecursion (IsServed m world (past ++ e ∷ [])) (after_event m before e).done
     next-served =
         let olds : AllByRecursion (IsServed m world (past ++ e ∷ [])) before.done = all-both (λ d. d.position ≤ before.position) (IsServed m world past) (IsServed m world (past ++ e ∷ [])) before.done served-push (h.sound).done_before h.served in
         elim f.done [
-          inl same ↦ subst (AllByRecursion (IsServed m world (past ++ e ∷ []))) (sym same) olds
-        | inr t ↦ subst (AllByRecursion (IsServed m world (past ++ e ∷ []))) (sym t.done) (all-push (IsServed m world (past ++ e ∷ [])) before.done (record { job = (t.held).job; position = before.position; reply = t.reply }) olds (served-now t))
+          | inl same ↦ subst (AllByRecursion (IsServed m world (past ++ e ∷ []))) (sym same) olds
+          | inr t ↦ subst (AllByRecursion (IsServed m world (past ++ e ∷ []))) (sym t.done) (all-push (IsServed m world (past ++ e ∷ [])) before.done (record { job = (t.held).job; position = before.position; reply = t.reply }) olds (served-now t))
         ]
 
     history-push : History m world (past ++ e ∷ [])

@@ -11,9 +11,10 @@ use Rattle.ante_core.specs.declared.StepError.{StepError}
 use Rattle.ante_core.specs.declared.StepError.TheVariants.{OutOfMemory, NotNow}
 use Rattle.ante_core.specs.declared.DoneJob.{DoneJob}
 use Rattle.ante_core.specs.declared.window.Held.{Held}
-use Rattle.ante_core.specs.Answers.{Answers}
-use Rattle.ante_core.specs.Machine.{Meaning, State, WindowState, start, held_by, without, with_frame, is_done, waiting_below, waiting_jobs, with_window, with_window_and_done, in_window, take_row, apply_row, begin_row, next_held, with_drawn, claim_row, look_row, ring_row, taken_from, after_piece, advance_row, cut_row, is_empty, close_row, starved_advance, core_step, core_starved}
+use Rattle.ante_core.specs.Answers.{Answers, wants_memory}
+use Rattle.ante_core.specs.Machine.{Meaning, State, WindowState, most_jobs, start, held_by, without, with_frame, is_done, waiting_below, waiting_jobs, with_window, with_window_and_done, in_window, take_row, apply_row, begin_row, next_held, with_drawn, claim_row, look_row, ring_row, taken_from, after_piece, advance_row, cut_row, is_empty, close_row, starved_advance, core_step, core_starved}
 use Rattle.ante_core.specs.Sound.{ApartBy, frame_after, IsReached, IsDrawn, IsSoundWindow, IsSound, held_in}
+use Rattle.ante_core.specs.Runs.{after_event}
 use Rattle.ante_core.proofs.Lists.{all-push, all-weaken, all-both, apart-push, all-without, apart-without, all-held, all-with_frame, all-with_any_frame, apart-with_frame, all-other_readers, apart-others, is_done-push, all-other_jobs, slice_get-append, waiting-taken, waiting-undone, waiting-ascending}
 use Rattle.ante_core.proofs.Pieces.{frame_after-more}
 use Rattle.ante_core.proofs.Rows.{Mapped, mapped, Chained, chained, InWindow, in_window-some, IsNext, next_held-some, Advanced, advance_row-some}
@@ -34,9 +35,9 @@ module _ {W X J F R : Type 0} (m : Meaning W X J F R) where
   -- Take
   take-sound : (s : State W J F R) (job : J) (new : State W J F R) → IsSound m s → take_row s job ≡ Some new → IsSound m new
   take-sound s job new sound e =
-      let p = cond_some (is_none s.window && nat_lt (length s.jobs) 4294967295) (record s { jobs = s.jobs ++ job ∷ [] }) new e in
-      let tests = and_parts (is_none s.window) (nat_lt (length s.jobs) 4294967295) p.0 in
-      let few : length s.jobs < 4294967295 = ltb-true (length s.jobs) 4294967295 tests.1 in
+      let p = cond_some (is_none s.window && nat_lt (length s.jobs) most_jobs) (record s { jobs = s.jobs ++ job ∷ [] }) new e in
+      let tests = and_parts (is_none s.window) (nat_lt (length s.jobs) most_jobs) p.0 in
+      let few : length s.jobs < most_jobs = ltb-true (length s.jobs) most_jobs tests.1 in
       let more : length (s.jobs ++ job ∷ []) ≡ length s.jobs + 1 = length-append s.jobs (job ∷ []) in
       subst (IsSound m) p.1 (record {
         numbered = omega (arith, few, more);
@@ -107,7 +108,7 @@ module _ {W X J F R : Type 0} (m : Meaning W X J F R) where
         let p = cond_some (nat_le was.deadline moment) (record was { rung = Some (unwrap_or was.rung moment) }) becomes e in
         let late : was.deadline ≤ moment = leb-true was.deadline moment p.0 in
         let rung : was.deadline ≤ unwrap_or was.rung moment =
-          (elim was.rung as (λ o. IfSome o (λ k. was.deadline ≤ k) → was.deadline ≤ unwrap_or o moment) [ None ↦ λ _. late | Some k ↦ λ at. at ]) w.rung in
+        (elim was.rung as (λ o. IfSome o (λ k. was.deadline ≤ k) → was.deadline ≤ unwrap_or o moment) [ None ↦ λ _. late | Some k ↦ λ at. at ]) w.rung in
         subst Sound p.1 (record {
           ascending = w.ascending;
           taken = w.taken;
@@ -158,10 +159,10 @@ module _ {W X J F R : Type 0} (m : Meaning W X J F R) where
     claim-sound reader was becomes w e =
         let p = cond_some (is_none (held_by reader was.held)) (unwrap_or (option_map (with_drawn was) (next_held m world jobs reader was)) was) becomes e in
         let free : held_by reader was.held ≡ None =
-          (elim (held_by reader was.held) as (λ o. is_none o ≡ true → o ≡ None) [ None ↦ λ _. refl | Some h ↦ λ e. absurd (true≢false (sym e)) ]) p.0 in
+        (elim (held_by reader was.held) as (λ o. is_none o ≡ true → o ≡ None) [ None ↦ λ _. refl | Some h ↦ λ e. absurd (true≢false (sym e)) ]) p.0 in
         (elim (next_held m world jobs reader was) as (λ o. next_held m world jobs reader was ≡ o → unwrap_or (option_map (with_drawn was) o) was ≡ becomes → Sound becomes) [
-          None ↦ λ _ same. subst Sound same w
-        | Some h ↦ λ next is. subst Sound is (drawn-sound reader was h w free (next_held-some m world jobs reader was h next))
+          | None ↦ λ _ same. subst Sound same w
+          | Some h ↦ λ next is. subst Sound is (drawn-sound reader was h w free (next_held-some m world jobs reader was h next))
         ]) refl p.1
 
     -- a piece that gives a frame
@@ -206,7 +207,7 @@ module _ {W X J F R : Type 0} (m : Meaning W X J F R) where
       let was : IsSoundWindow m s.world s.jobs s.done w = if_some-at s.window (IsSoundWindow m s.world s.jobs s.done) w a.is_window sound.window in
       subst (IsSound m) a.is_new
       ((elim (m.advanced s.world h.frame) as (λ piece. m.advanced s.world h.frame ≡ piece → IsSound m (with_window_and_done s (after_piece reader s.position (w, s.done) h piece))) [
-        More frame ↦ λ piece. record {
+        | More frame ↦ λ piece. record {
           numbered = sound.numbered;
           window = more-sound s.world s.jobs s.done reader w h frame was a.is_held piece;
           free = λ e. absurd (true≢false e);
@@ -214,18 +215,18 @@ module _ {W X J F R : Type 0} (m : Meaning W X J F R) where
           done_distinct = sound.done_distinct;
           done_before = sound.done_before;
         }
-      | Ready reply ↦ λ piece.
-        let d : DoneJob R = record { job = h.job; position = s.position; reply = reply } in
-        let undone : is_done s.done h.job ≡ false = all-held (λ h. is_done s.done h.job ≡ false) reader w.held h was.undone a.is_held in
-        let at : IsDrawn w.listed w.drawn h.job = all-held (λ h. IsDrawn w.listed w.drawn h.job) reader w.held h was.drawn a.is_held in
-        record {
-          numbered = sound.numbered;
-          window = ready-sound s.world s.jobs s.done reader w h d refl was a.is_held;
-          free = λ e. absurd (true≢false e);
-          done_taken = all-push (λ d. d.job < length s.jobs) s.done d sound.done_taken (was.taken at.place h.job at.stands);
-          done_distinct = apart-push (λ d. d.job) s.done d sound.done_distinct (all-other_jobs s.done h.job undone);
-          done_before = all-push (λ d. d.position ≤ s.position) s.done d sound.done_before (omega arith);
-        }
+        | Ready reply ↦ λ piece.
+            let d : DoneJob R = record { job = h.job; position = s.position; reply = reply } in
+            let undone : is_done s.done h.job ≡ false = all-held (λ h. is_done s.done h.job ≡ false) reader w.held h was.undone a.is_held in
+            let at : IsDrawn w.listed w.drawn h.job = all-held (λ h. IsDrawn w.listed w.drawn h.job) reader w.held h was.drawn a.is_held in
+            record {
+              numbered = sound.numbered;
+              window = ready-sound s.world s.jobs s.done reader w h d refl was a.is_held;
+              free = λ e. absurd (true≢false e);
+              done_taken = all-push (λ d. d.job < length s.jobs) s.done d sound.done_taken (was.taken at.place h.job at.stands);
+              done_distinct = apart-push (λ d. d.job) s.done d sound.done_distinct (all-other_jobs s.done h.job undone);
+              done_before = all-push (λ d. d.position ≤ s.position) s.done d sound.done_before (omega arith);
+            }
       ]) refl)
 
   -- Advance whose memory is refused
@@ -234,12 +235,12 @@ module _ {W X J F R : Type 0} (m : Meaning W X J F R) where
       record {
         numbered = sound.numbered;
         window = (elim s.window as (λ o. IfSome o (IsSoundWindow m s.world s.jobs s.done) → IfSome (option_map (taken_from reader) o) (IsSoundWindow m s.world s.jobs s.done)) [
-          None ↦ λ _. tt
-        | Some w ↦ λ h. taken_from-sound s.world s.jobs s.done reader w h
+          | None ↦ λ _. tt
+          | Some w ↦ λ h. taken_from-sound s.world s.jobs s.done reader w h
         ]) sound.window;
         free = elim s.window as (λ o. IsNone (option_map (taken_from reader) o) → held_in (option_map (taken_from reader) o) ≡ []) [
-          None ↦ λ _. refl
-        | Some w ↦ λ e. absurd (true≢false e)
+          | None ↦ λ _. refl
+          | Some w ↦ λ e. absurd (true≢false e)
         ];
         done_taken = sound.done_taken;
         done_distinct = sound.done_distinct;
@@ -289,3 +290,9 @@ module _ {W X J F R : Type 0} (m : Meaning W X J F R) where
   answers-sound s event new (Ok _) sound a = step-sound s event new sound a
   answers-sound s event new (Err NotNow) sound a = subst (IsSound m) (sym a.1) sound
   answers-sound s event new (Err OutOfMemory) sound a = subst (IsSound m) (sym a.1) (core_starved-sound s event sound)
+
+  -- What a step answers leaves the state after its event.
+  pub answers-after : {A E : Type 0} (s : State W J F R) (event : Event A W X J F R) (new : State W J F R) (answer : Result E StepError) → Answers (core_step m s event) (core_starved s event) s new answer → new ≡ after_event m s (event, wants_memory answer)
+  answers-after s event new (Ok _) a = sym (ap (λ o. unwrap_or o s) a)
+  answers-after s event new (Err NotNow) a = a.1 ∙ sym (ap (λ o. unwrap_or o s) a.0)
+  answers-after s event new (Err OutOfMemory) a = a.1

@@ -33,16 +33,16 @@ module _ {F : Type 0} where
   all-without P reader [] all = tt
   all-without P reader (h ∷ hs) all =
       elim (nat_eq h.reader reader) as (λ b. AllByRecursion P (cond b hs (h ∷ without reader hs))) [
-        true ↦ all.1
-      | false ↦ (all.0, all-without P reader hs all.1)
+        | true ↦ all.1
+        | false ↦ (all.0, all-without P reader hs all.1)
       ]
 
   pub apart-without : (number : Held F → ℕ) (reader : ℕ) (hs : List (Held F)) → ApartBy number hs → ApartBy number (without reader hs)
   apart-without number reader [] apart = tt
   apart-without number reader (h ∷ hs) apart =
       elim (nat_eq h.reader reader) as (λ b. ApartBy number (cond b hs (h ∷ without reader hs))) [
-        true ↦ apart.1
-      | false ↦ (all-without (λ y. number h ≢ number y) reader hs apart.0, apart-without number reader hs apart.1)
+        | true ↦ apart.1
+        | false ↦ (all-without (λ y. number h ≢ number y) reader hs apart.0, apart-without number reader hs apart.1)
       ]
 
   -- P of the one that the reader holds
@@ -50,16 +50,16 @@ module _ {F : Type 0} where
   all-held P reader [] h all held = absurd (none-some h held)
   all-held P reader (x ∷ hs) h all held =
       (elim (nat_eq x.reader reader) as (λ b. cond b (Some x) (held_by reader hs) ≡ Some h → P h) [
-        true ↦ λ held. subst P (same_Some x h held) all.0
-      | false ↦ λ held. all-held P reader hs h all.1 held
+        | true ↦ λ held. subst P (same_Some x h held) all.0
+        | false ↦ λ held. all-held P reader hs h all.1 held
       ]) held
 
   pub all-with_frame : (P : Held F → Type 0) (reader : ℕ) (frame : F) (hs : List (Held F)) (h : Held F) → AllByRecursion P hs → held_by reader hs ≡ Some h → P (record h { frame = frame }) → AllByRecursion P (with_frame reader frame hs)
   all-with_frame P reader frame [] h all held here = tt
   all-with_frame P reader frame (x ∷ hs) h all held here =
       (elim (nat_eq x.reader reader) as (λ b. cond b (Some x) (held_by reader hs) ≡ Some h → AllByRecursion P (cond b ((record x { frame = frame }) ∷ hs) (x ∷ with_frame reader frame hs))) [
-        true ↦ λ held. (subst (λ (y : Held F). P (record y { frame = frame })) (sym (same_Some x h held)) here, all.1)
-      | false ↦ λ held. (all.0, all-with_frame P reader frame hs h all.1 held here)
+        | true ↦ λ held. (subst (λ (y : Held F). P (record y { frame = frame })) (sym (same_Some x h held)) here, all.1)
+        | false ↦ λ held. (all.0, all-with_frame P reader frame hs h all.1 held here)
       ]) held
 
   -- P, where it doesn't read the frame
@@ -67,16 +67,16 @@ module _ {F : Type 0} where
   all-with_any_frame P reader frame [] blind all = tt
   all-with_any_frame P reader frame (x ∷ hs) blind all =
       elim (nat_eq x.reader reader) as (λ b. AllByRecursion P (cond b ((record x { frame = frame }) ∷ hs) (x ∷ with_frame reader frame hs))) [
-        true ↦ (blind x all.0, all.1)
-      | false ↦ (all.0, all-with_any_frame P reader frame hs blind all.1)
+        | true ↦ (blind x all.0, all.1)
+        | false ↦ (all.0, all-with_any_frame P reader frame hs blind all.1)
       ]
 
   pub apart-with_frame : (number : Held F → ℕ) (reader : ℕ) (frame : F) (hs : List (Held F)) → ((h : Held F) → number (record h { frame = frame }) ≡ number h) → ApartBy number hs → ApartBy number (with_frame reader frame hs)
   apart-with_frame number reader frame [] blind apart = tt
   apart-with_frame number reader frame (x ∷ hs) blind apart =
       elim (nat_eq x.reader reader) as (λ b. ApartBy number (cond b ((record x { frame = frame }) ∷ hs) (x ∷ with_frame reader frame hs))) [
-        true ↦ (all-weaken (λ y. number x ≢ number y) (λ y. number (record x { frame = frame }) ≢ number y) hs (λ y apart e. apart (sym (blind x) ∙ e)) apart.0, apart.1)
-      | false ↦ (all-with_any_frame (λ y. number x ≢ number y) reader frame hs (λ h apart e. apart (e ∙ blind h)) apart.0, apart-with_frame number reader frame hs blind apart.1)
+        | true ↦ (all-weaken (λ y. number x ≢ number y) (λ y. number (record x { frame = frame }) ≢ number y) hs (λ y apart e. apart (sym (blind x) ∙ e)) apart.0, apart.1)
+        | false ↦ (all-with_any_frame (λ y. number x ≢ number y) reader frame hs (λ h apart e. apart (e ∙ blind h)) apart.0, apart-with_frame number reader frame hs blind apart.1)
       ]
 
   -- a reader that holds nothing is none of those that do
@@ -84,8 +84,8 @@ module _ {F : Type 0} where
   all-other_readers reader [] none = tt
   all-other_readers reader (x ∷ hs) none =
       (elim (nat_eq x.reader reader) as (λ b. nat_eq x.reader reader ≡ b → cond b (Some x) (held_by reader hs) ≡ None → AllByRecursion (λ h. h.reader ≢ reader) (x ∷ hs)) [
-        true ↦ λ e none. absurd (none-some x (sym none))
-      | false ↦ λ e none. ((λ same. true≢false (sym (eq-eqb x.reader reader same) ∙ e)), all-other_readers reader hs none)
+        | true ↦ λ e none. absurd (none-some x (sym none))
+        | false ↦ λ e none. ((λ same. true≢false (sym (eq-eqb x.reader reader same) ∙ e)), all-other_readers reader hs none)
       ]) refl none
 
   -- the other jobs have other numbers
@@ -93,8 +93,8 @@ module _ {F : Type 0} where
   apart-others number reader [] h apart held = tt
   apart-others number reader (x ∷ hs) h apart held =
       (elim (nat_eq x.reader reader) as (λ b. cond b (Some x) (held_by reader hs) ≡ Some h → AllByRecursion (λ y. number y ≢ number h) (cond b hs (x ∷ without reader hs))) [
-        true ↦ λ held. all-weaken (λ y. number x ≢ number y) (λ y. number y ≢ number h) hs (λ y differs same. differs (ap number (same_Some x h held) ∙ sym same)) apart.0
-      | false ↦ λ held. (all-held (λ y. number x ≢ number y) reader hs h apart.0 held, apart-others number reader hs h apart.1 held)
+        | true ↦ λ held. all-weaken (λ y. number x ≢ number y) (λ y. number y ≢ number h) hs (λ y differs same. differs (ap number (same_Some x h held) ∙ sym same)) apart.0
+        | false ↦ λ held. (all-held (λ y. number x ≢ number y) reader hs h apart.0 held, apart-others number reader hs h apart.1 held)
       ]) held
 
 -- of the done jobs
@@ -135,10 +135,10 @@ module _ {R : Type 0} (done : List (DoneJob R)) where
   waiting-taken zero place job at = absurd (none-some job at)
   waiting-taken (suc n) place job at =
       (elim (is_done done n) as (λ b. slice_get (cond b (waiting_below done n) (waiting_below done n ++ n ∷ [])) place ≡ Some job → job < suc n) [
-        true ↦ λ at. omega (arith, waiting-taken n place job at)
-      | false ↦ λ at. elim (slice_get-push (waiting_below done n) n job place at) [
-          inl found ↦ omega (arith, waiting-taken n place job found)
-        | inr last ↦ omega (arith, last.1)
+        | true ↦ λ at. omega (arith, waiting-taken n place job at)
+        | false ↦ λ at. elim (slice_get-push (waiting_below done n) n job place at) [
+          | inl found ↦ omega (arith, waiting-taken n place job found)
+          | inr last ↦ omega (arith, last.1)
         ]
       ]) at
 
@@ -146,10 +146,10 @@ module _ {R : Type 0} (done : List (DoneJob R)) where
   waiting-undone zero place job at = absurd (none-some job at)
   waiting-undone (suc n) place job at =
       (elim (is_done done n) as (λ b. is_done done n ≡ b → slice_get (cond b (waiting_below done n) (waiting_below done n ++ n ∷ [])) place ≡ Some job → is_done done job ≡ false) [
-        true ↦ λ e at. waiting-undone n place job at
-      | false ↦ λ e at. elim (slice_get-push (waiting_below done n) n job place at) [
-          inl found ↦ waiting-undone n place job found
-        | inr last ↦ subst (λ (k : ℕ). is_done done k ≡ false) last.1 e
+        | true ↦ λ e at. waiting-undone n place job at
+        | false ↦ λ e at. elim (slice_get-push (waiting_below done n) n job place at) [
+          | inl found ↦ waiting-undone n place job found
+          | inr last ↦ subst (λ (k : ℕ). is_done done k ≡ false) last.1 e
         ]
       ]) refl at
 
@@ -157,15 +157,15 @@ module _ {R : Type 0} (done : List (DoneJob R)) where
   waiting-ascending zero i j a b less at other = absurd (none-some a at)
   waiting-ascending (suc n) i j a b less at other =
       (elim (is_done done n) as (λ t. slice_get (cond t (waiting_below done n) (waiting_below done n ++ n ∷ [])) i ≡ Some a → slice_get (cond t (waiting_below done n) (waiting_below done n ++ n ∷ [])) j ≡ Some b → a < b) [
-        true ↦ λ at other. waiting-ascending n i j a b less at other
-      | false ↦ λ at other. elim (slice_get-push (waiting_below done n) n a i at) [
-          inl found ↦ elim (slice_get-push (waiting_below done n) n b j other) [
-            inl later ↦ waiting-ascending n i j a b less found later
-          | inr last ↦ omega (arith, waiting-taken n i a found, last.1)
+        | true ↦ λ at other. waiting-ascending n i j a b less at other
+        | false ↦ λ at other. elim (slice_get-push (waiting_below done n) n a i at) [
+          | inl found ↦ elim (slice_get-push (waiting_below done n) n b j other) [
+            | inl later ↦ waiting-ascending n i j a b less found later
+            | inr last ↦ omega (arith, waiting-taken n i a found, last.1)
           ]
-        | inr last ↦ elim (slice_get-push (waiting_below done n) n b j other) [
-            inl later ↦ absurd (omega (arith, last.0, slice_get-within (waiting_below done n) b j later))
-          | inr end ↦ absurd (omega (arith, last.0, end.0))
+          | inr last ↦ elim (slice_get-push (waiting_below done n) n b j other) [
+            | inl later ↦ absurd (omega (arith, last.0, slice_get-within (waiting_below done n) b j later))
+            | inr end ↦ absurd (omega (arith, last.0, end.0))
           ]
         ]
       ]) at other

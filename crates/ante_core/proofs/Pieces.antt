@@ -14,8 +14,8 @@ module _ {W X J F R : Type 0} (m : Meaning W X J F R) (world : W) where
       rw e refl
   frame_after-more (suc pieces) first frame next reached piece =
       (elim (next_frame (m.advanced world first)) as (λ o. option_and_then (λ f. frame_after m world f pieces) o ≡ Some frame → option_and_then (λ f. frame_after m world f (suc pieces)) o ≡ Some next) [
-        None ↦ λ reached. absurd (none-some frame reached)
-      | Some second ↦ λ reached. frame_after-more pieces second frame next reached piece
+        | None ↦ λ reached. absurd (none-some frame reached)
+        | Some second ↦ λ reached. frame_after-more pieces second frame next reached piece
       ]) reached
 
   -- the pieces of a job lead to one reply
@@ -31,8 +31,8 @@ module _ {W X J F R : Type 0} (m : Meaning W X J F R) (world : W) where
       absurd (none-some frame (rw e at reached))
   one_reply (suc n) (suc k) first frame other reply answer reached ends reaches end =
       (elim (next_frame (m.advanced world first)) as (λ o. option_and_then (λ f. frame_after m world f n) o ≡ Some frame → option_and_then (λ f. frame_after m world f k) o ≡ Some other → reply ≡ answer) [
-        None ↦ λ reached reaches. absurd (none-some frame reached)
-      | Some second ↦ λ reached reaches. one_reply n k second frame other reply answer reached ends reaches end
+        | None ↦ λ reached reaches. absurd (none-some frame reached)
+        | Some second ↦ λ reached reaches. one_reply n k second frame other reply answer reached ends reaches end
       ]) reached reaches
 
   pub alone_once : (job : J) (reply answer : R) → Alone m world job reply → Alone m world job answer → reply ≡ answer

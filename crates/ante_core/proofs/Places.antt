@@ -27,4 +27,3 @@ is_at reader (x ∷ hs) (suc place) h none within is here =
       others = rw e (ap (λ l. x ∷ l) r.others);
       changed = λ d frame. rw e (ap (λ l. x ∷ l) (r.changed d frame));
     }
-

@@ -66,4 +66,4 @@ advance_row-some m s reader new e =
     let c = chained (λ w. option_map (with_window_and_done s) (option_map (λ h. after_piece reader s.position (w, s.done) h (m.advanced s.world h.frame)) (held_by reader w.held))) s.window new e in
     let o = mapped (with_window_and_done s) (option_map (λ h. after_piece reader s.position (c.value, s.done) h (m.advanced s.world h.frame)) (held_by reader (c.value).held)) new c.gives in
     let h = mapped (λ h. after_piece reader s.position (c.value, s.done) h (m.advanced s.world h.frame)) (held_by reader (c.value).held) o.value o.is in
-    record { was = c.value; held = h.value; is_window = c.is; is_held = h.is; is_new = ap (with_window_and_done s) h.gives ∙ o.gives }
+    record { was = c.value; held = h.value; is_window = c.is; is_held = h.is; is_new = rw h.gives o.gives }

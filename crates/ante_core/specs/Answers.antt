@@ -1,5 +1,5 @@
 -- What a step answers, and what it leaves.
-use Rattle.std.specs.Prelude.{◌≡◌, Option, Some, None, IsSome, Result, Ok, Err, ⊤}
+use Rattle.std.specs.Prelude.{◌≡◌, Bool, true, false, Option, Some, None, IsSome, Result, Ok, Err}
 use Rattle.ante_core.specs.declared.StepError.{StepError}
 use Rattle.ante_core.specs.declared.StepError.TheVariants.{OutOfMemory, NotNow}
 
@@ -15,3 +15,9 @@ abbrev pub AnswersNoMemory : {S E : Type 0} → Option S → S → S → Result 
 AnswersNoMemory row old new (Ok _) = row ≡ Some new
 AnswersNoMemory row old new (Err NotNow) = (row ≡ None) × (new ≡ old)
 AnswersNoMemory row old new (Err OutOfMemory) = ⊥
+
+-- whether the answer is want of memory
+abbrev pub wants_memory : {E : Type 0} → Result E StepError → Bool
+wants_memory (Ok _) = false
+wants_memory (Err NotNow) = false
+wants_memory (Err OutOfMemory) = true

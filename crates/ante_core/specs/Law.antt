@@ -5,19 +5,19 @@ use Rattle.ante_core.specs.declared.Event.{Event}
 use Rattle.ante_core.specs.declared.Event.TheVariants.{Take, Claim, Advance}
 use Rattle.ante_core.specs.declared.DoneJob.{DoneJob}
 use Rattle.ante_core.specs.Machine.{Meaning, State, start}
-use Rattle.ante_core.specs.Runs.{after, run, writes_by, writes_of, world_after, Alone, job_of}
+use Rattle.ante_core.specs.Runs.{after_event, run, writes_by, writes_of, world_after, Alone, job_of}
 
 module _ {A W X J F R : Type 0} (m : Meaning W X J F R) where
   -- The event hands the job out to the reader: it held none before and holds this one afterwards.
   abbrev pub HandsOut : State W J F R → Event A W X J F R × Bool → ℕ → ℕ → Type 0
-  HandsOut s e reader job = (job_of s reader ≡ None) × (job_of (after m s e) reader ≡ Some job)
+  HandsOut s e reader job = (job_of s reader ≡ None) × (job_of (after_event m s e) reader ≡ Some job)
 
   -- The reader holds the job from this state on through these events, none of which makes a write or hands this
   -- job out.
   abbrev pub StaysInHand : ℕ → ℕ → State W J F R → List (Event A W X J F R × Bool) → Type 0
   StaysInHand reader job s [] = job_of s reader ≡ Some job
   StaysInHand reader job s (e ∷ es) =
-      (job_of s reader ≡ Some job) × (writes_by m s e ≡ []) × ((other : ℕ) → HandsOut s e other job → ⊥) × StaysInHand reader job (after m s e) es
+      (job_of s reader ≡ Some job) × (writes_by m s e ≡ []) × ((other : ℕ) → HandsOut s e other job → ⊥) × StaysInHand reader job (after_event m s e) es
 
   -- The job was taken, by this event of these, as the one of its number.
   pub record IsTaken (world : W) (events : List (Event A W X J F R × Bool)) (job : ℕ) (value : J) : Type 0 where

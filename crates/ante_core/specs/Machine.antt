@@ -33,6 +33,10 @@ pub record State (W J F R : Type 0) : Type 0 where
   pub done : List (DoneJob R)
   pub window : Option (WindowState F)
 
+-- how many jobs can be taken, so that their numbers fit 32 bits
+abbrev pub most_jobs : ℕ
+most_jobs = 4294967295
+
 -- the machine over a world, before any event
 abbrev pub start : {W J F R : Type 0} → W → State W J F R
 start world = record { world = world; position = 0; jobs = []; done = []; window = None }
@@ -83,7 +87,7 @@ in_window s row = option_map (with_window s) (option_and_then row s.window)
 
 -- Take(job) stands without a window, and with fewer than 4,294,967,295 jobs taken. It appends the job.
 abbrev pub take_row : {W J F R : Type 0} → State W J F R → J → Option (State W J F R)
-take_row s job = stands_if (is_none s.window && nat_lt (length s.jobs) 4294967295) (record s { jobs = s.jobs ++ job ∷ [] })
+take_row s job = stands_if (is_none s.window && nat_lt (length s.jobs) most_jobs) (record s { jobs = s.jobs ++ job ∷ [] })
 
 -- Apply(write) stands without a window, and with a position below 2^63. It changes the world, and the position
 -- rises by one.

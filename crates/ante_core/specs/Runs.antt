@@ -8,13 +8,13 @@ use Rattle.ante_core.specs.Machine.{Meaning, State, WindowState, held_by, core_s
 use Rattle.ante_core.specs.Sound.{frame_after}
 
 -- The state after an event, given with whether it wanted memory. An event without a row changes nothing.
-abbrev pub after : {A W X J F R : Type 0} → Meaning W X J F R → State W J F R → Event A W X J F R × Bool → State W J F R
-after m s e = if e.1 then core_starved s e.0 else unwrap_or (core_step m s e.0) s
+abbrev pub after_event : {A W X J F R : Type 0} → Meaning W X J F R → State W J F R → Event A W X J F R × Bool → State W J F R
+after_event m s e = if e.1 then core_starved s e.0 else unwrap_or (core_step m s e.0) s
 
 -- The state after all the events, in their order.
 abbrev pub run : {A W X J F R : Type 0} → Meaning W X J F R → State W J F R → List (Event A W X J F R × Bool) → State W J F R
 run m s [] = s
-run m s (e ∷ es) = run m (after m s e) es
+run m s (e ∷ es) = run m (after_event m s e) es
 
 -- the write that an event carries
 abbrev pub write_of : {A W X J F R : Type 0} → Event A W X J F R → List X
@@ -35,7 +35,7 @@ writes_by m s e = if is_some (core_step m s e.0) && not e.1 then write_of e.0 el
 -- The writes that the events make, in their order.
 abbrev pub writes_of : {A W X J F R : Type 0} → Meaning W X J F R → State W J F R → List (Event A W X J F R × Bool) → List X
 writes_of m s [] = []
-writes_of m s (e ∷ es) = writes_by m s e ++ writes_of m (after m s e) es
+writes_of m s (e ∷ es) = writes_by m s e ++ writes_of m (after_event m s e) es
 
 -- The world after these writes.
 abbrev pub world_after : {W X J F R : Type 0} → Meaning W X J F R → W → List X → W

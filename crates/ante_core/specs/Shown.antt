@@ -2,7 +2,7 @@
 use Rattle.std.specs.Prelude.{ℕ, ◌≤◌, length, option_map}
 use Rattle.ante_core.specs.declared.window.Window.{Window}
 use Rattle.ante_core.specs.declared.machine.Machine.TheInside.{Inside}
-use Rattle.ante_core.specs.Machine.{State, WindowState}
+use Rattle.ante_core.specs.Machine.{State, WindowState, most_jobs}
 
 abbrev pub shown_window : {F : Type 0} → Window F → WindowState F
 shown_window w = record { deadline = w.deadline; listed = w.listed.items; drawn = w.drawn; rung = w.rung; held = w.held.items }
@@ -13,4 +13,4 @@ shown_machine c =
 
 -- no more jobs were taken than can be numbered
 abbrev pub HasFewJobs : {A W X J F R : Type 0} → Inside A W X J F R → Type 0
-HasFewJobs c = length c.jobs.items ≤ 4294967295
+HasFewJobs c = length c.jobs.items ≤ most_jobs

@@ -5,7 +5,7 @@ use Rattle.ante_core.specs.declared.Piece.{Piece}
 use Rattle.ante_core.specs.declared.Piece.TheVariants.{More, Ready}
 use Rattle.ante_core.specs.declared.DoneJob.{DoneJob}
 use Rattle.ante_core.specs.declared.window.Held.{Held}
-use Rattle.ante_core.specs.Machine.{Meaning, State, WindowState, is_done}
+use Rattle.ante_core.specs.Machine.{Meaning, State, WindowState, most_jobs, is_done}
 
 -- no two elements of the list have the same number
 abbrev pub ApartBy : {A : Type 0} → (A → ℕ) → List A → Type 0
@@ -66,7 +66,7 @@ held_in (Some w) = w.held
 -- A state is sound.
 pub record IsSound {W X J F R : Type 0} (m : Meaning W X J F R) (s : State W J F R) : Type 0 where
   -- no more jobs were taken than can be numbered
-  pub numbered : length s.jobs ≤ 4294967295
+  pub numbered : length s.jobs ≤ most_jobs
   -- the window is sound, and without a window no reader has a job
   pub window : IfSome s.window (IsSoundWindow m s.world s.jobs s.done)
   pub free : IsNone s.window → held_in s.window ≡ []

@@ -17,17 +17,14 @@ use crate::Actor;
 /// before it was taken.
 pub fn every_job_is_served<A: Actor>()
     ensures { (world : A.World) (events : List (Event A A.World A.Write A.Job A.Frame A.Reply × Bool)) → EveryJobIsServed (record { applied = A.applied; begun = A.begun; advanced = A.advanced }) world events }
-{
-}
+{}
 
 /// Every state that a run reaches is sound.
 pub fn every_state_is_sound<A: Actor>()
     ensures { (world : A.World) (events : List (Event A A.World A.Write A.Job A.Frame A.Reply × Bool)) → IsSound (record { applied = A.applied; begun = A.begun; advanced = A.advanced }) (run (record { applied = A.applied; begun = A.begun; advanced = A.advanced }) (start world) events) }
-{
-}
+{}
 
 /// A job gives at most one reply alone on a world.
 pub fn alone_is_one<A: Actor>()
     ensures { (world : A.World) (job : A.Job) (one other : A.Reply) → Alone (record { applied = A.applied; begun = A.begun; advanced = A.advanced }) world job one → Alone (record { applied = A.applied; begun = A.begun; advanced = A.advanced }) world job other → one ≡ other }
-{
-}
+{}

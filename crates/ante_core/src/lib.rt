@@ -9,8 +9,9 @@
 #![tactic(auto)]
 
 ghost use Rattle.std.specs.Prelude.{◌≡◌, IfOk, OnOk, OnErr, length};
-ghost use Rattle.ante_core.specs.Answers.{Answers};
+ghost use Rattle.ante_core.specs.Answers.{Answers, wants_memory};
 ghost use Rattle.ante_core.specs.Machine.{start, core_step, core_starved, waiting_jobs};
+ghost use Rattle.ante_core.specs.Runs.{after_event};
 ghost use Rattle.ante_core.specs.Sound.{IsSound};
 
 pub mod laws;
@@ -22,7 +23,7 @@ use std::alloc::{AllocError, Global};
 use std::marker::Model;
 
 /// What one piece of a job's work ends in.
-#[derive(Debug, Drop)]
+#[derive(Clone, Debug, Drop, PartialEq, Eq)]
 pub enum Piece<F, R> {
     /// More is to do: the frame to go on from.
     More(F),
@@ -36,9 +37,13 @@ pub enum Piece<F, R> {
 /// memory. So a job's reply depends on the world and the job alone.
 pub trait Actor {
     type World: Drop;
+
     type Write: Drop;
+
     type Job: Drop;
+
     type Frame: Drop;
+
     type Reply: Drop;
 
     ghost use Rattle.ante_core.specs.declared.Piece.{Piece};
@@ -59,7 +64,11 @@ pub trait Actor {
         ensures { IfOk result (λ frame. frame ≡ begun world.now job.now) };
 
     /// Runs one piece of a job from the frame that it has come to. After want of memory the frame is gone.
-    fn advance(alloc: Global, world: &Self::World, frame: Self::Frame) -> Result<Piece<Self::Frame, Self::Reply>, AllocError>
+    fn advance(
+        alloc: Global,
+        world: &Self::World,
+        frame: Self::Frame,
+    ) -> Result<Piece<Self::Frame, Self::Reply>, AllocError>
         ensures { IfOk result (λ piece. piece ≡ advanced world.now frame) };
 }
 
@@ -98,7 +107,7 @@ pub enum StepError {
 }
 
 /// A job that is done.
-#[derive(Debug, Drop)]
+#[derive(Clone, Debug, Drop, PartialEq, Eq)]
 pub struct DoneJob<R> {
     /// The job's number.
     pub job: u32,
@@ -138,6 +147,7 @@ impl<A: Actor> Core<A> {
     /// Makes the event happen, if the table has a row for it.
     pub fn step(&mut self, alloc: Global, event: Event<A>) -> Result<(), StepError>
         ensures answer { Answers (core_step (record { applied = A.applied; begun = A.begun; advanced = A.advanced }) self.old event) (core_starved self.old event) self.old self.new result }
+        ensures event { self.new ≡ after_event (record { applied = A.applied; begun = A.begun; advanced = A.advanced }) self.old (event, wants_memory result) }
         ensures sound { IsSound (record { applied = A.applied; begun = A.begun; advanced = A.advanced }) self.new }
     {
         self.machine.step(alloc, event)
@@ -164,3 +174,6 @@ impl<A: Actor> Core<A> {
         self.machine.waiting()
     }
 }
+
+#[cfg(test)]
+mod tests;

@@ -160,7 +160,14 @@ impl<A: Actor> Machine<A> {
         ensures { Answers (advance_row (record { applied = A.applied; begun = A.begun; advanced = A.advanced }) self.old reader) (starved_advance self.old reader) self.old self.new result }
     {
         match &mut self.window {
-            Some(window) => advance::<A>(alloc, window, &mut self.done, &self.world, self.position, reader),
+            Some(window) => advance::<A>(
+                alloc,
+                window,
+                &mut self.done,
+                &self.world,
+                self.position,
+                reader,
+            ),
             None => Err(StepError::NotNow),
         }
     }

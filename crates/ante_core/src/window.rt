@@ -64,7 +64,13 @@ impl<F: Drop> Window<F> {
 
 /// Hands the reader the next job of the window's list, with the frame from which it begins.
 #[tactic(auto, using(std::proofs::lemmas::Option::gets))]
-pub fn claim<A: Actor>(alloc: Global, window: &mut Window<A::Frame>, world: &A::World, jobs: &[A::Job], reader: u32) -> Result<(), StepError>
+pub fn claim<A: Actor>(
+    alloc: Global,
+    window: &mut Window<A::Frame>,
+    world: &A::World,
+    jobs: &[A::Job],
+    reader: u32,
+) -> Result<(), StepError>
     ensures { Answers (claim_row (record { applied = A.applied; begun = A.begun; advanced = A.advanced }) world.now jobs.now reader (shown_window window.old)) (shown_window window.old) (shown_window window.old) (shown_window window.new) result }
 {
     if place_of(&window.held, reader).is_some() {
@@ -90,7 +96,14 @@ pub fn claim<A: Actor>(alloc: Global, window: &mut Window<A::Frame>, world: &A::
 }
 
 /// Runs one piece of the reader's job. Where memory is refused, the reader has lost the job.
-pub fn advance<A: Actor>(alloc: Global, window: &mut Window<A::Frame>, done: &mut Vec<DoneJob<A::Reply>>, world: &A::World, position: u64, reader: u32) -> Result<(), StepError>
+pub fn advance<A: Actor>(
+    alloc: Global,
+    window: &mut Window<A::Frame>,
+    done: &mut Vec<DoneJob<A::Reply>>,
+    world: &A::World,
+    position: u64,
+    reader: u32,
+) -> Result<(), StepError>
     ensures { Answers (piece_row (record { applied = A.applied; begun = A.begun; advanced = A.advanced }) world.now position reader (shown_window window.old, done.old.items)) (taken_from reader (shown_window window.old), done.old.items) (shown_window window.old, done.old.items) (shown_window window.new, done.new.items) result }
 {
     let Some(place) = place_of(&window.held, reader) else {
@@ -99,7 +112,14 @@ pub fn advance<A: Actor>(alloc: Global, window: &mut Window<A::Frame>, done: &mu
     let Held { reader, job, frame } = window.held.remove(place);
     match A::advance(alloc, world, frame) {
         Ok(Piece::More(frame)) => put_back(&mut window.held, place, Held { reader, job, frame }),
-        Ok(Piece::Ready(reply)) => finish(done, DoneJob { job, position, reply }),
+        Ok(Piece::Ready(reply)) => finish(
+            done,
+            DoneJob {
+                job,
+                position,
+                reply,
+            },
+        ),
         Err(_) => Err(StepError::OutOfMemory),
     }
 }
