@@ -10,6 +10,7 @@
 
 ghost use Rattle.std.specs.Prelude.{◌≡◌, IfOk, OnOk, OnErr, length};
 ghost use Rattle.ante_core.specs.Answers.{Answers, wants_memory};
+ghost use Rattle.ante_core.specs.declared.StepError.TheVariants.{OutOfMemory};
 ghost use Rattle.ante_core.specs.Machine.{start, core_step, core_starved, waiting_jobs};
 ghost use Rattle.ante_core.specs.Runs.{after_event};
 ghost use Rattle.ante_core.specs.Sound.{IsSound};
@@ -19,7 +20,9 @@ mod machine;
 mod window;
 
 use machine::Machine;
-use std::alloc::{AllocError, Global};
+use std::alloc::{AllocError, AllocFailed, Global};
+use std::error::Error;
+use std::fmt;
 use std::marker::Model;
 
 /// What one piece of a job's work ends in.
@@ -104,6 +107,33 @@ pub enum StepError {
     OutOfMemory,
     /// The machine's table has no row for this event in this state. Nothing has changed.
     NotNow,
+}
+
+impl fmt::Display for StepError {
+    fn fmt<W: fmt::Write>(&self, f: &mut fmt::Formatter<W>) -> fmt::Result {
+        match self {
+            StepError::OutOfMemory => write!(f, "out of memory"),
+            StepError::NotNow => write!(f, "the event has no row in this state"),
+        }
+    }
+}
+
+impl Error for StepError {}
+
+impl From<AllocError> for StepError {
+    ghost from_gives = { λ _ e. e ≡ OutOfMemory };
+
+    fn from(_refused: AllocError) -> StepError {
+        StepError::OutOfMemory
+    }
+}
+
+impl<T: Drop> From<AllocFailed<T>> for StepError {
+    ghost from_gives = { λ _ e. e ≡ OutOfMemory };
+
+    fn from(_refused: AllocFailed<T>) -> StepError {
+        StepError::OutOfMemory
+    }
 }
 
 /// A job that is done.

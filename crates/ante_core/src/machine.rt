@@ -87,10 +87,8 @@ impl<A: Actor> Machine<A> {
         if self.window.is_some() || self.jobs.len() >= u32::MAX as usize {
             return Err(StepError::NotNow);
         }
-        match self.jobs.push(job) {
-            Ok(()) => Ok(()),
-            Err(_) => Err(StepError::OutOfMemory),
-        }
+        self.jobs.push(job)?;
+        Ok(())
     }
 
     fn apply(&mut self, alloc: Global, write: &A::Write) -> Result<(), StepError>
@@ -99,13 +97,9 @@ impl<A: Actor> Machine<A> {
         if self.window.is_some() || self.position >= 1 << 63 {
             return Err(StepError::NotNow);
         }
-        match A::apply(alloc, &mut self.world, write) {
-            Ok(()) => {
-                self.position += 1;
-                Ok(())
-            }
-            Err(_) => Err(StepError::OutOfMemory),
-        }
+        A::apply(alloc, &mut self.world, write)?;
+        self.position += 1;
+        Ok(())
     }
 
     fn begin(&mut self, alloc: Global, deadline: u64) -> Result<(), StepError>
@@ -114,19 +108,15 @@ impl<A: Actor> Machine<A> {
         if self.window.is_some() {
             return Err(StepError::NotNow);
         }
-        match list_waiting(alloc, &self.done, self.jobs.len() as u32) {
-            Ok(listed) => {
-                self.window = Some(Window {
-                    deadline,
-                    listed,
-                    drawn: 0,
-                    rung: None,
-                    held: Vec::new(alloc),
-                });
-                Ok(())
-            }
-            Err(_) => Err(StepError::OutOfMemory),
-        }
+        let listed = list_waiting(alloc, &self.done, self.jobs.len() as u32)?;
+        self.window = Some(Window {
+            deadline,
+            listed,
+            drawn: 0,
+            rung: None,
+            held: Vec::new(alloc),
+        });
+        Ok(())
     }
 
     fn claim(&mut self, alloc: Global, reader: u32) -> Result<(), StepError>

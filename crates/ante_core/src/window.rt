@@ -83,16 +83,10 @@ pub fn claim<A: Actor>(
     let Some(value) = jobs.get(job as usize) else {
         return Ok(());
     };
-    match A::begin(alloc, world, value) {
-        Ok(frame) => match window.held.push(Held { reader, job, frame }) {
-            Ok(()) => {
-                window.drawn += 1;
-                Ok(())
-            }
-            Err(_) => Err(StepError::OutOfMemory),
-        },
-        Err(_) => Err(StepError::OutOfMemory),
-    }
+    let frame = A::begin(alloc, world, value)?;
+    window.held.push(Held { reader, job, frame })?;
+    window.drawn += 1;
+    Ok(())
 }
 
 /// Runs one piece of the reader's job. Where memory is refused, the reader has lost the job.
@@ -110,39 +104,15 @@ pub fn advance<A: Actor>(
         return Err(StepError::NotNow);
     };
     let Held { reader, job, frame } = window.held.remove(place);
-    match A::advance(alloc, world, frame) {
-        Ok(Piece::More(frame)) => put_back(&mut window.held, place, Held { reader, job, frame }),
-        Ok(Piece::Ready(reply)) => finish(
-            done,
-            DoneJob {
-                job,
-                position,
-                reply,
-            },
-        ),
-        Err(_) => Err(StepError::OutOfMemory),
+    match A::advance(alloc, world, frame)? {
+        Piece::More(frame) => window.held.insert(place, Held { reader, job, frame })?,
+        Piece::Ready(reply) => done.push(DoneJob {
+            job,
+            position,
+            reply,
+        })?,
     }
-}
-
-/// Puts the job back at its place.
-fn put_back<F: Drop>(held: &mut Vec<Held<F>>, place: usize, job: Held<F>) -> Result<(), StepError>
-    requires { place ≤ vec_len held.old }
-    ensures { Answers (Some (insert held.old.items place job)) held.old.items held.old.items held.new.items result }
-{
-    match held.insert(place, job) {
-        Ok(()) => Ok(()),
-        Err(_) => Err(StepError::OutOfMemory),
-    }
-}
-
-/// Puts the job at the end of the done list.
-fn finish<R: Drop>(done: &mut Vec<DoneJob<R>>, job: DoneJob<R>) -> Result<(), StepError>
-    ensures { Answers (Some (done.old.items ++ job ∷ [])) done.old.items done.old.items done.new.items result }
-{
-    match done.push(job) {
-        Ok(()) => Ok(()),
-        Err(_) => Err(StepError::OutOfMemory),
-    }
+    Ok(())
 }
 
 /// Where the reader's job stands among those in readers' hands.
