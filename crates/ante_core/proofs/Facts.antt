@@ -1,17 +1,15 @@
 -- What one event changes.
-use Rattle.std.proofs.Common.{◌≡◌, ℕ, zero, suc, ◌+◌, ◌⊎◌, inl, inr, Bool, true, false, cond, not, ◌&&◌, List, [], ◌∷◌, ◌++◌, length, Option, Some, None, is_none, is_some, unwrap_or, option_map, option_and_then, nat_lt, nat_le, refl, sym, ap, subst, ◌∙◌, true≢false, add-zero, arith}
+use Rattle.std.proofs.Common.{◌≡◌, ℕ, ◌+◌, ◌⊎◌, inl, inr, Bool, true, false, cond, ◌&&◌, List, [], ◌∷◌, ◌++◌, length, Some, None, is_none, is_some, unwrap_or, option_map, option_and_then, nat_lt, nat_le, refl, sym, ap, subst, ◌∙◌, true≢false, add-zero}
 use Rattle.std.proofs.lemmas.Option.{none-some, same_Some, cond_some}
 use Rattle.std.proofs.lemmas.Bool.{and_parts}
-use Rattle.ante_core.specs.declared.Piece.{Piece}
 use Rattle.ante_core.specs.declared.Piece.TheVariants.{More, Ready}
 use Rattle.ante_core.specs.declared.Event.{Event}
 use Rattle.ante_core.specs.declared.Event.TheVariants.{Take, Apply, Begin, Claim, Look, Ring, Advance, Cut, Close}
-use Rattle.ante_core.specs.declared.DoneJob.{DoneJob}
 use Rattle.ante_core.specs.declared.window.Held.{Held}
-use Rattle.ante_core.specs.Machine.{Meaning, State, WindowState, most_jobs, held_by, without, with_window, with_window_and_done, in_window, take_row, apply_row, begin_row, next_held, with_drawn, claim_row, look_row, ring_row, taken_from, after_piece, advance_row, cut_row, is_empty, close_row, starved_advance, waiting_jobs, core_step, core_starved}
-use Rattle.ante_core.specs.Sound.{ApartBy, IsSoundWindow, IsSound}
+use Rattle.ante_core.specs.Machine.{Meaning, State, WindowState, most_jobs, held_by, with_window, with_window_and_done, in_window, take_row, apply_row, begin_row, next_held, with_drawn, claim_row, look_row, ring_row, taken_from, after_piece, advance_row, cut_row, is_empty, close_row, starved_advance, waiting_jobs, core_step, core_starved}
+use Rattle.ante_core.specs.Sound.{IsSoundWindow, IsSound}
 use Rattle.ante_core.specs.Runs.{after_event, write_of, writes_by, world_after, job_of}
-use Rattle.ante_core.proofs.Rows.{Mapped, mapped, Chained, chained, InWindow, in_window-some, IsNext, next_held-some, Advanced, advance_row-some}
+use Rattle.ante_core.proofs.Rows.{chained, in_window-some, next_held-some, advance_row-some}
 use Rattle.ante_core.proofs.Hands.{job_in, job_in-without, job_in-with_frame, job_in-push}
 use Rattle.ante_core.proofs.Kept.{if_some-at}
 

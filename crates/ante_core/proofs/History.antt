@@ -1,5 +1,5 @@
 -- What is true after any list of events.
-use Rattle.std.proofs.Common.{◌≡◌, ◌≢◌, ℕ, ◌+◌, ◌≤◌, ◌⊎◌, inl, inr, Bool, true, false, List, [], ◌∷◌, ◌++◌, length, take, slice_get, Option, Some, None, option_map, option_and_then, unwrap_or, refl, sym, ap, subst, ◌∙◌, append_assoc, append-nil, take_at, length-append, arith}
+use Rattle.std.proofs.Common.{◌≡◌, ℕ, ◌+◌, ◌≤◌, inl, inr, Bool, true, false, List, [], ◌∷◌, ◌++◌, length, take, slice_get, Some, None, option_map, option_and_then, unwrap_or, refl, sym, ap, subst, ◌∙◌, append_assoc, append-nil, take_at, length-append, arith}
 use Rattle.std.specs.List.{AllByRecursion}
 use Rattle.std.proofs.lemmas.List.{take-append-le}
 use Rattle.std.proofs.lemmas.Option.{none-some, same_Some}
@@ -10,8 +10,8 @@ use Rattle.ante_core.specs.declared.window.Held.{Held}
 use Rattle.ante_core.specs.Machine.{Meaning, State, WindowState, start, held_by, core_step}
 use Rattle.ante_core.specs.Sound.{IsReached, IsSoundWindow, IsSound}
 use Rattle.ante_core.specs.Runs.{after_event, run, writes_by, writes_of, world_after, Alone, job_of}
-use Rattle.ante_core.specs.Law.{HandsOut, StaysInHand, IsTaken, IsClaimed, IsFinished, IsServed, EveryJobIsServed}
-use Rattle.ante_core.proofs.Lists.{all-push, all-both, all-held, slice_get-push, slice_get-append}
+use Rattle.ante_core.specs.Law.{HandsOut, StaysInHand, IsTaken, IsClaimed, IsServed}
+use Rattle.ante_core.proofs.Lists.{all-push, all-both, all-held, slice_get-push}
 use Rattle.ante_core.proofs.Hands.{one_reader}
 use Rattle.ante_core.proofs.Kept.{start-sound, step-sound, core_starved-sound, if_some-at}
 use Rattle.ante_core.proofs.Facts.{TakesJob, FinishesJob, KeepsJob, ClaimsJob, Facts, facts}

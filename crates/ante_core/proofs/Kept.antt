@@ -1,9 +1,7 @@
 -- Each row of the table keeps soundness.
-use Rattle.std.proofs.Common.{◌≡◌, ◌≢◌, ℕ, zero, suc, ◌+◌, ◌<◌, ◌≤◌, ◌⊎◌, Bool, true, false, cond, ◌&&◌, List, [], ◌∷◌, ◌++◌, length, slice_get, Option, Some, None, IfSome, IsNone, is_none, is_some, unwrap_or, option_map, nat_lt, nat_le, Result, Ok, Err, refl, sym, ap, subst, ◌∙◌, ltb-true, leb-true, true≢false, length-append, arith}
-use Rattle.std.specs.List.{AllByRecursion}
+use Rattle.std.proofs.Common.{◌≡◌, ◌≢◌, ℕ, zero, suc, ◌+◌, ◌<◌, ◌≤◌, true, false, ◌&&◌, List, [], ◌∷◌, ◌++◌, length, Option, Some, None, IfSome, IsNone, is_none, is_some, unwrap_or, option_map, nat_lt, nat_le, Result, Ok, Err, refl, sym, ap, subst, ◌∙◌, ltb-true, leb-true, true≢false, length-append, arith}
 use Rattle.std.proofs.lemmas.Option.{none-some, same_Some, cond_some}
 use Rattle.std.proofs.lemmas.Bool.{and_parts}
-use Rattle.ante_core.specs.declared.Piece.{Piece}
 use Rattle.ante_core.specs.declared.Piece.TheVariants.{More, Ready}
 use Rattle.ante_core.specs.declared.Event.{Event}
 use Rattle.ante_core.specs.declared.Event.TheVariants.{Take, Apply, Begin, Claim, Look, Ring, Advance, Cut, Close}
@@ -12,12 +10,12 @@ use Rattle.ante_core.specs.declared.StepError.TheVariants.{OutOfMemory, NotNow}
 use Rattle.ante_core.specs.declared.DoneJob.{DoneJob}
 use Rattle.ante_core.specs.declared.window.Held.{Held}
 use Rattle.ante_core.specs.Answers.{Answers, wants_memory}
-use Rattle.ante_core.specs.Machine.{Meaning, State, WindowState, most_jobs, start, held_by, without, with_frame, is_done, waiting_below, waiting_jobs, with_window, with_window_and_done, in_window, take_row, apply_row, begin_row, next_held, with_drawn, claim_row, look_row, ring_row, taken_from, after_piece, advance_row, cut_row, is_empty, close_row, starved_advance, core_step, core_starved}
-use Rattle.ante_core.specs.Sound.{ApartBy, frame_after, IsReached, IsDrawn, IsSoundWindow, IsSound, held_in}
+use Rattle.ante_core.specs.Machine.{Meaning, State, WindowState, most_jobs, start, held_by, without, with_frame, is_done, waiting_jobs, with_window, with_window_and_done, in_window, take_row, apply_row, begin_row, next_held, with_drawn, claim_row, look_row, ring_row, taken_from, after_piece, advance_row, cut_row, is_empty, close_row, starved_advance, core_step, core_starved}
+use Rattle.ante_core.specs.Sound.{IsReached, IsDrawn, IsSoundWindow, IsSound, held_in}
 use Rattle.ante_core.specs.Runs.{after_event}
-use Rattle.ante_core.proofs.Lists.{all-push, all-weaken, all-both, apart-push, all-without, apart-without, all-held, all-with_frame, all-with_any_frame, apart-with_frame, all-other_readers, apart-others, is_done-push, all-other_jobs, slice_get-append, waiting-taken, waiting-undone, waiting-ascending}
+use Rattle.ante_core.proofs.Lists.{all-push, all-weaken, all-both, apart-push, all-without, apart-without, all-held, all-with_frame, all-with_any_frame, apart-with_frame, all-other_readers, apart-others, is_done-push, all-other_jobs, waiting-taken, waiting-undone, waiting-ascending}
 use Rattle.ante_core.proofs.Pieces.{frame_after-more}
-use Rattle.ante_core.proofs.Rows.{Mapped, mapped, Chained, chained, InWindow, in_window-some, IsNext, next_held-some, Advanced, advance_row-some}
+use Rattle.ante_core.proofs.Rows.{chained, in_window-some, IsNext, next_held-some, advance_row-some}
 
 -- what holds of a window that isn't there
 pub if_no_window : {A : Type 0} (o : Option A) (P : A → Type 0) → is_none o ≡ true → IfSome o P

@@ -1,8 +1,8 @@
 -- Where a reader's job stands in the list of jobs in hand.
-use Rattle.std.proofs.Common.{◌≡◌, ℕ, zero, suc, ◌+◌, ◌<◌, ◌≤◌, Bool, true, false, List, [], ◌∷◌, ◌++◌, length, get_or, take, drop, slice_index_or, Some, None, nat_eq, refl, sym, ap, subst, add-one, arith}
-use Rattle.std.specs.List.{AllByRecursion, remove, insert}
+use Rattle.std.proofs.Common.{◌≡◌, ℕ, zero, suc, ◌<◌, true, false, List, [], ◌∷◌, length, take, slice_index_or, None, nat_eq, refl, ap, subst, arith}
+use Rattle.std.specs.List.{AllByRecursion}
 use Rattle.ante_core.specs.declared.window.Held.{Held}
-use Rattle.ante_core.specs.Machine.{held_by, without, with_frame}
+use Rattle.ante_core.specs.Machine.{held_by}
 use Rattle.ante_core.specs.Place.{IsAt}
 
 -- none of these jobs is the reader's

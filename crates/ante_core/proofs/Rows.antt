@@ -1,9 +1,8 @@
 -- What follows from a row that stands.
-use Rattle.std.proofs.Common.{◌≡◌, ℕ, Bool, true, cond, List, Option, Some, None, slice_get, option_map, option_and_then, refl, sym, ap, ◌∙◌}
-use Rattle.std.proofs.lemmas.Option.{none-some, same_Some, cond_some}
-use Rattle.ante_core.specs.declared.DoneJob.{DoneJob}
+use Rattle.std.proofs.Common.{◌≡◌, ℕ, List, Option, Some, None, slice_get, option_map, option_and_then, refl}
+use Rattle.std.proofs.lemmas.Option.{none-some, same_Some}
 use Rattle.ante_core.specs.declared.window.Held.{Held}
-use Rattle.ante_core.specs.Machine.{Meaning, State, WindowState, held_by, with_window, of_window, in_window, next_held, after_piece, with_window_and_done, advance_row}
+use Rattle.ante_core.specs.Machine.{Meaning, State, WindowState, held_by, with_window, in_window, next_held, after_piece, with_window_and_done, advance_row}
 
 -- a value that `option_map` gave
 pub record Mapped {A B : Type 0} (f : A → B) (o : Option A) (y : B) : Type 0 where

@@ -1,5 +1,5 @@
 -- The window machine, as a table: one case for each kind of event.
-use Rattle.std.specs.Prelude.{ℕ, zero, suc, ◌+◌, ◌^◌, Bool, true, false, cond, not, ◌&&◌, ◌||◌, ◌==◌, nat_lt, nat_le, List, [], ◌∷◌, ◌++◌, length, slice_get, if◌then◌else◌, Option, Some, None, is_some, is_none, option_map, option_and_then, unwrap_or}
+use Rattle.std.specs.Prelude.{ℕ, zero, suc, ◌+◌, ◌^◌, Bool, true, false, ◌&&◌, ◌||◌, ◌==◌, nat_lt, nat_le, List, [], ◌∷◌, ◌++◌, length, slice_get, if◌then◌else◌, Option, Some, None, is_some, is_none, option_map, option_and_then, unwrap_or}
 use Rattle.ante_core.specs.declared.Piece.{Piece}
 use Rattle.ante_core.specs.declared.Piece.TheVariants.{More, Ready}
 use Rattle.ante_core.specs.declared.Event.{Event}

@@ -1,10 +1,9 @@
 -- Whole runs of the machine, and what a job gives alone.
-use Rattle.std.specs.Prelude.{◌≡◌, ℕ, Bool, true, false, not, ◌&&◌, List, [], ◌∷◌, ◌++◌, if◌then◌else◌, Option, Some, None, is_some, option_and_then, option_map, unwrap_or}
+use Rattle.std.specs.Prelude.{◌≡◌, ℕ, Bool, not, ◌&&◌, List, [], ◌∷◌, ◌++◌, if◌then◌else◌, Option, Some, is_some, option_and_then, option_map, unwrap_or}
 use Rattle.ante_core.specs.declared.Piece.TheVariants.{Ready}
 use Rattle.ante_core.specs.declared.Event.{Event}
 use Rattle.ante_core.specs.declared.Event.TheVariants.{Take, Apply, Begin, Claim, Look, Ring, Advance, Cut, Close}
-use Rattle.ante_core.specs.declared.window.Held.{Held}
-use Rattle.ante_core.specs.Machine.{Meaning, State, WindowState, held_by, core_step, core_starved}
+use Rattle.ante_core.specs.Machine.{Meaning, State, held_by, core_step, core_starved}
 use Rattle.ante_core.specs.Sound.{frame_after}
 
 -- The state after an event, given with whether it wanted memory. An event without a row changes nothing.

@@ -1,5 +1,5 @@
 -- What contracts see of the machine that the code keeps.
-use Rattle.std.specs.Prelude.{ℕ, ◌≤◌, length, option_map}
+use Rattle.std.specs.Prelude.{◌≤◌, length, option_map}
 use Rattle.ante_core.specs.declared.window.Window.{Window}
 use Rattle.ante_core.specs.declared.machine.Machine.TheInside.{Inside}
 use Rattle.ante_core.specs.Machine.{State, WindowState, most_jobs}

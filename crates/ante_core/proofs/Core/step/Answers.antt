@@ -1,5 +1,3 @@
-use Rattle.std.proofs.Common.{subst}
-use Rattle.ante_core.specs.Sound.{IsSound}
 use Rattle.ante_core.proofs.Kept.{answers-sound, answers-after}
 use Rattle.ante_core.proofs.Core.step.Goals as goal
 

@@ -1,6 +1,4 @@
-use Rattle.ante_core.proofs.Lists.{apart-push}
 use Rattle.ante_core.proofs.Pieces.{alone_once}
-use Rattle.ante_core.proofs.Rows.{mapped}
 use Rattle.ante_core.proofs.laws.alone_is_one.Goals as goal
 
 pub returns : goal.returns

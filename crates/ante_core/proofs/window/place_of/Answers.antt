@@ -1,8 +1,6 @@
-use Rattle.std.proofs.Common.{◌≡◌, ◌<◌, length, take, is_some, Some, true, sym, ap, ◌∙◌, subst, eq-eqb, arith}
+use Rattle.std.proofs.Common.{is_some, sym, ap, subst, eq-eqb, arith}
 use Rattle.std.proofs.lemmas.List.{take_all}
 use Rattle.ante_core.specs.Place.{IsAt}
-use Rattle.ante_core.specs.declared.window.Held.{Held}
-use Rattle.ante_core.specs.Machine.{held_by}
 use Rattle.ante_core.proofs.Places.{NoneHeldBy, held_by-none, is_at}
 use Rattle.ante_core.proofs.window.place_of.Goals as goal
 
