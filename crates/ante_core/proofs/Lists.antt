@@ -1,6 +1,7 @@
 -- Lists of jobs in hand and of done jobs: what holds of each of them, and what keeps it.
-use Rattle.std.proofs.Common.{◌≡◌, ◌≢◌, ℕ, zero, suc, ◌<◌, ◌⊎◌, inl, inr, true, false, cond, List, [], ◌∷◌, ◌++◌, length, slice_get, Some, None, nat_eq, refl, sym, ap, subst, ◌∙◌, eq-eqb, true≢false, arith}
+use Rattle.std.proofs.Common.{length-append, ◌+◌, not, add-one, zero-add, append-nil, map-id, ◌≡◌, ◌≢◌, ℕ, zero, suc, ◌<◌, ◌⊎◌, inl, inr, true, false, cond, List, [], ◌∷◌, ◌++◌, length, slice_get, Some, None, nat_eq, refl, sym, ap, subst, ◌∙◌, eq-eqb, true≢false, arith}
 use Rattle.std.specs.List.{AllByRecursion}
+use Rattle.std.proofs.lemmas.List.FromFn.{filter_of_map_range_with_len_more}
 use Rattle.std.proofs.lemmas.Option.{none-some, same_Some}
 use Rattle.std.proofs.lemmas.Bool.{or_parts, or_from, eqb-false, ne_eqb}
 use Rattle.ante_core.specs.declared.DoneJob.{DoneJob}
@@ -131,6 +132,24 @@ slice_get-within (x ∷ xs) y (suc place) at = omega (arith, slice_get-within xs
 
 -- the jobs that wait
 module _ {R : Type 0} (done : List (DoneJob R)) where
+  pub waiting_below_more : (n : ℕ) → waiting_below done (n + 1) ≡ cond (is_done done n) (waiting_below done n) (waiting_below done n ++ n ∷ [])
+  waiting_below_more n =
+      let e = filter_of_map_range_with_len_more (λ job. not (is_done done job)) (λ (x : ℕ). x) 0 n n (zero-add n) in
+      simp map-id at e ∙ elim (is_done done n) as (λ b. waiting_below done n ++ cond (not b) (n ∷ []) [] ≡ cond b (waiting_below done n) (waiting_below done n ++ n ∷ [])) [
+        | true ↦ append-nil (waiting_below done n)
+        | false ↦ refl
+      ]
+
+  pub waiting_count_more : (n : ℕ) → length (waiting_below done (n + 1)) ≡ cond (is_done done n) (length (waiting_below done n)) (length (waiting_below done n) + 1)
+  waiting_count_more n =
+      ap (λ (l : List ℕ). length l) (waiting_below_more n) ∙ elim (is_done done n) as (λ b. length (cond b (waiting_below done n) (waiting_below done n ++ n ∷ [])) ≡ cond b (length (waiting_below done n)) (length (waiting_below done n) + 1)) [
+        | true ↦ refl
+        | false ↦ length-append (waiting_below done n) (n ∷ [])
+      ]
+
+  waiting_below-suc : (n : ℕ) → waiting_below done (suc n) ≡ cond (is_done done n) (waiting_below done n) (waiting_below done n ++ n ∷ [])
+  waiting_below-suc n = subst (λ (k : ℕ). waiting_below done k ≡ cond (is_done done n) (waiting_below done n) (waiting_below done n ++ n ∷ [])) (add-one n) (waiting_below_more n)
+
   pub waiting-taken : (n place job : ℕ) → slice_get (waiting_below done n) place ≡ Some job → job < n
   waiting-taken zero place job at = absurd (none-some job at)
   waiting-taken (suc n) place job at =
@@ -140,7 +159,7 @@ module _ {R : Type 0} (done : List (DoneJob R)) where
           | inl found ↦ omega (arith, waiting-taken n place job found)
           | inr last ↦ omega (arith, last.1)
         ]
-      ]) at
+      ]) (subst (λ (l : List ℕ). slice_get l place ≡ Some job) (waiting_below-suc n) at)
 
   pub waiting-undone : (n place job : ℕ) → slice_get (waiting_below done n) place ≡ Some job → is_done done job ≡ false
   waiting-undone zero place job at = absurd (none-some job at)
@@ -151,7 +170,7 @@ module _ {R : Type 0} (done : List (DoneJob R)) where
           | inl found ↦ waiting-undone n place job found
           | inr last ↦ subst (λ (k : ℕ). is_done done k ≡ false) last.1 e
         ]
-      ]) refl at
+      ]) refl (subst (λ (l : List ℕ). slice_get l place ≡ Some job) (waiting_below-suc n) at)
 
   pub waiting-ascending : (n : ℕ) → IsAscending (waiting_below done n)
   waiting-ascending zero i j a b less at other = absurd (none-some a at)
@@ -168,4 +187,4 @@ module _ {R : Type 0} (done : List (DoneJob R)) where
             | inr end ↦ absurd (omega (arith, last.0, end.0))
           ]
         ]
-      ]) at other
+      ]) (subst (λ (l : List ℕ). slice_get l i ≡ Some a) (waiting_below-suc n) at) (subst (λ (l : List ℕ). slice_get l j ≡ Some b) (waiting_below-suc n) other)

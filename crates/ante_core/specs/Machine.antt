@@ -1,5 +1,6 @@
 -- The window machine, as a table: one case for each kind of event.
-use Rattle.std.specs.Prelude.{ℕ, zero, suc, ◌+◌, ◌^◌, Bool, true, false, ◌&&◌, ◌||◌, ◌==◌, nat_lt, nat_le, List, [], ◌∷◌, ◌++◌, length, slice_get, if◌then◌else◌, Option, Some, None, is_some, is_none, option_map, option_and_then, unwrap_or}
+use Rattle.std.specs.Prelude.{ℕ, ◌+◌, ◌^◌, Bool, true, false, not, ◌&&◌, ◌==◌, nat_lt, nat_le, List, [], ◌∷◌, ◌++◌, length, slice_get, if◌then◌else◌, Option, Some, None, is_some, is_none, option_map, option_and_then, unwrap_or, filter}
+use Rattle.std.specs.List.{list_any, range_with_len}
 use Rattle.ante_core.specs.declared.Piece.{Piece}
 use Rattle.ante_core.specs.declared.Piece.TheVariants.{More, Ready}
 use Rattle.ante_core.specs.declared.Event.{Event}
@@ -58,13 +59,11 @@ with_frame reader frame (h ∷ hs) = if h.reader == reader then (record h { fram
 
 -- whether the job is done
 abbrev pub is_done : {R : Type 0} → List (DoneJob R) → ℕ → Bool
-is_done [] job = false
-is_done (d ∷ ds) job = d.job == job || is_done ds job
+is_done done job = list_any (λ d. d.job == job) done
 
 -- the jobs below this number that aren't done, ascending
 abbrev pub waiting_below : {R : Type 0} → List (DoneJob R) → ℕ → List ℕ
-waiting_below done zero = []
-waiting_below done (suc n) = if is_done done n then waiting_below done n else waiting_below done n ++ n ∷ []
+waiting_below done count = filter (λ job. not (is_done done job)) (range_with_len 0 count)
 
 -- the jobs that wait: they were taken and aren't done
 abbrev pub waiting_jobs : {W J F R : Type 0} → State W J F R → List ℕ
@@ -100,7 +99,8 @@ abbrev pub begin_row : {W J F R : Type 0} → State W J F R → ℕ → Option (
 begin_row s deadline =
     stands_if (is_none s.window) (with_window s (record { deadline = deadline; listed = waiting_jobs s; drawn = 0; rung = None; held = [] }))
 
--- the next job of the window's list, in the reader's hands with its first frame
+-- The next job of the window's list, in the reader's hands with its first frame. A job of the list was taken, so
+-- it is there.
 abbrev pub next_held : {W X J F R : Type 0} → Meaning W X J F R → W → List J → ℕ → WindowState F → Option (Held F)
 next_held m world jobs reader w =
     option_and_then (λ job. option_map (λ value. record { reader = reader; job = job; frame = m.begun world value }) (slice_get jobs job)) (slice_get w.listed w.drawn)

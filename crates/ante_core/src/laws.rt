@@ -3,7 +3,7 @@
 //! An event is given with whether it wanted memory. Each law is the contract of a function that does nothing: to
 //! call it is to learn it.
 
-ghost use Rattle.std.specs.Prelude.{◌≡◌, ℕ, Bool, List};
+ghost use Rattle.std.specs.Prelude.{◌≡◌, Bool, List};
 ghost use Rattle.ante_core.specs.declared.Event.{Event};
 ghost use Rattle.ante_core.specs.Machine.{start};
 ghost use Rattle.ante_core.specs.Runs.{run, Alone};

@@ -21,8 +21,6 @@ mod window;
 
 use machine::Machine;
 use std::alloc::{AllocError, AllocFailed, Global};
-use std::error::Error;
-use std::fmt;
 use std::marker::Model;
 
 /// What one piece of a job's work ends in.
@@ -108,17 +106,6 @@ pub enum StepError {
     /// The machine's table has no row for this event in this state. Nothing has changed.
     NotNow,
 }
-
-impl fmt::Display for StepError {
-    fn fmt<W: fmt::Write>(&self, f: &mut fmt::Formatter<W>) -> fmt::Result {
-        match self {
-            StepError::OutOfMemory => write!(f, "out of memory"),
-            StepError::NotNow => write!(f, "the event has no row in this state"),
-        }
-    }
-}
-
-impl Error for StepError {}
 
 impl From<AllocError> for StepError {
     ghost from_gives = { λ _ e. e ≡ OutOfMemory };

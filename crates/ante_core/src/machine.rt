@@ -1,6 +1,6 @@
 //! The machine's state as the code keeps it, with a method for each row of the table.
 
-ghost use Rattle.std.specs.Prelude.{◌≡◌, None, Some, length, IfOk, ◌<◌, ◌^◌};
+ghost use Rattle.std.specs.Prelude.{◌≡◌, length, IfOk};
 ghost use Rattle.ante_core.specs.Answers.{Answers};
 ghost use Rattle.ante_core.specs.Machine.{start, core_step, core_starved, take_row, apply_row, begin_row, claim_row, look_row, ring_row, advance_row, cut_row, close_row, in_window, of_window, starved_advance, waiting_jobs, waiting_below, is_done};
 
@@ -198,6 +198,7 @@ fn is_done<R>(done: &[DoneJob<R>], job: u32) -> bool
 }
 
 /// The jobs below `taken` that aren't done, ascending.
+#[tactic(auto, using(crate::proofs::Lists::waiting_below_more))]
 fn list_waiting<R>(alloc: Global, done: &[DoneJob<R>], taken: u32) -> Result<Vec<u32>, AllocError>
     ensures { IfOk result (λ listed. listed.items ≡ waiting_below done.now taken) }
 {
@@ -211,6 +212,7 @@ fn list_waiting<R>(alloc: Global, done: &[DoneJob<R>], taken: u32) -> Result<Vec
 }
 
 /// How many jobs below `taken` aren't done.
+#[tactic(auto, using(crate::proofs::Lists::waiting_count_more))]
 fn count_waiting<R>(done: &[DoneJob<R>], taken: u32) -> usize
     ensures { result ≡ length (waiting_below done.now taken) }
 {

@@ -1,8 +1,6 @@
 //! Two runs of the machine over an actor that counts: its world is a number, and a job of `k` adds the world up in
 //! `k` pieces of work.
 
-ghost use Rattle.std.specs.Prelude.{ℕ, ◌+◌, ◌-◌, ◌==◌, if◌then◌else◌};
-
 use crate::{Actor, Core, DoneJob, Event, Piece, StepError, laws};
 use std::alloc::{AllocError, Global};
 use std::test::Fail;
@@ -21,7 +19,7 @@ impl Actor for Counting {
 
     type Reply = u64;
 
-    ghost use Rattle.std.specs.Prelude.{ℕ, ◌+◌, ◌-◌, ◌==◌, if◌then◌else◌};
+    ghost use Rattle.std.specs.Prelude.{◌+◌, ◌-◌, ◌==◌, if◌then◌else◌};
     ghost use Rattle.ante_core.specs.declared.Piece.TheVariants.{More, Ready};
 
     ghost applied = { λ world write. world + write };

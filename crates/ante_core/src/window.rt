@@ -1,6 +1,6 @@
 //! One window as the code keeps it, and what readers do in it.
 
-ghost use Rattle.std.specs.Prelude.{◌≡◌, None, Some, ◌+◌, ◌≤◌, length, IfSome, IfNone, is_some, vec_len, insert, [], ◌∷◌, ◌++◌};
+ghost use Rattle.std.specs.Prelude.{◌≡◌, IfSome, IfNone, is_some};
 ghost use Rattle.ante_core.specs.Answers.{Answers, AnswersNoMemory};
 ghost use Rattle.ante_core.specs.Machine.{held_by, claim_row, ring_row, piece_row, taken_from, cut_row};
 ghost use Rattle.ante_core.specs.Shown.{shown_window};
