@@ -4,6 +4,10 @@
 #[cfg(test)]
 mod ids;
 #[cfg(test)]
+mod lists;
+#[cfg(test)]
 mod names;
 #[cfg(test)]
 mod packed;
+#[cfg(test)]
+mod traces;
