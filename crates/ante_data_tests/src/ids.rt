@@ -1,6 +1,6 @@
 //! Ids and digests, which were computed apart from the program.
 
-use ante_pack::Digest;
+use ante_pack::{Digest, ReadFault};
 use ante_types::{block_id, block_num, builtin_head, read_block, signing_digest, trx_id, trx_root};
 use std::alloc::Global;
 use std::test::Fail;
@@ -30,12 +30,18 @@ fn of_a_transaction(rt: HostRuntime) -> Result<(), Fail> {
     Ok(())
 }
 
+fn has_its_root(alloc: Global, packed: &[u8]) -> Result<bool, ReadFault> {
+    let block = read_block(alloc, packed)?;
+    let root = trx_root(alloc, &block.receipts)?;
+    Ok(root == block.header.trx_root)
+}
+
 #[test]
 fn of_a_block(rt: HostRuntime) -> Result<(), Fail> {
     let alloc = rt.alloc();
     let packed: Vec<u8> = hex::decode(alloc, BLOCK)?;
+    assert!(rt; has_its_root(alloc, &packed)?);
     let block = read_block(alloc, &packed)?;
-    assert_eq!(rt; trx_root(alloc, &block.receipts)?, block.header.trx_root);
     let head = builtin_head();
     assert_eq!(rt; head.id, block.header.previous);
     if block_num(&block.header.previous) < u32::MAX {
