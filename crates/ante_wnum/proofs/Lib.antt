@@ -1,0 +1,4 @@
+pub mod BitStrings
+pub mod Operations
+pub mod Readings
+pub mod Shifts

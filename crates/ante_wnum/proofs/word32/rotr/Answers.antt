@@ -1,0 +1,10 @@
+use Rattle.std.proofs.Common.{◌≡◌, ◌-◌, ◌*◌, ◌/◌, ◌%◌, ◌^◌, ◌++◌, take, drop, bit_or, Ok, ap, sym, ◌∙◌, mod-eq_of_lt}
+use Rattle.ante_wnum.specs.Integers.{ibits, integer}
+use Rattle.ante_wnum.proofs.Shifts.{rotr-is}
+use Rattle.ante_wnum.proofs.word32.rotr.Goals as goal
+
+pub returns : goal.returns
+returns c =
+    let same : c.args.count % 32 ≡ c.args.count = mod-eq_of_lt c.requires in
+    ap Ok (c.rotate_right.ensures ∙ ap (λ k. bit_or (c.args.a / 2 ^ k) ((c.args.a * 2 ^ ((32 - k) % 32)) % 2 ^ 32)) same ∙ sym (rotr-is 32 c.args.count c.args.a c.requires c.ranges.a.fits)
+    ∙ ap (λ k. integer (drop (32 - k) (ibits 32 c.args.a) ++ take (32 - k) (ibits 32 c.args.a))) (sym same))
