@@ -97,8 +97,14 @@ abbrev pub host_functions : List HostFunction
 host_functions = plain_calls
     ++ (index_calls (codes "db_idx64_") (i ∷ []) ++ (index_calls (codes "db_idx128_") (i ∷ []) ++ index_calls (codes "db_idx256_") (i ∷ i ∷ [])))
 
+abbrev pub names : List (List ℕ)
+names = map (λ f. f.name) host_functions
+
+abbrev pub types : List (List ValueKind × Option ValueKind)
+types = map (λ f. (f.params, f.result)) host_functions
+
 abbrev pub name_at : ℕ → Option (List ℕ)
-name_at number = slice_get (map (λ f. f.name) host_functions) number
+name_at number = slice_get names number
 
 abbrev pub type_at : ℕ → Option (List ValueKind × Option ValueKind)
-type_at number = slice_get (map (λ f. (f.params, f.result)) host_functions) number
+type_at number = slice_get types number

@@ -1,5 +1,4 @@
-use Rattle.std.proofs.Common.{◌≡◌, ◌∙◌, ap, sym}
-use Rattle.ante_wtree.specs.Expressions.{Expression, put, expression_of, put-Block, put-Loop, put-If}
+use Rattle.ante_wtree.specs.Expressions.{put-Block, put-Loop, put-If}
 use Rattle.ante_wtree.proofs.shape.shape_of.Goals as goal
 
 pub returns-in-Block : goal.returns-in-Block
