@@ -1,0 +1,6 @@
+//! The binary format of WebAssembly Core 1.0 (chapter 5), without floating-point numbers.
+#![tactic(auto)]
+
+mod integers;
+
+pub use integers::{Misread, read_s32, read_s64, read_u32};
