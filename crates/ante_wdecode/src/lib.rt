@@ -2,5 +2,6 @@
 #![tactic(auto)]
 
 mod integers;
+mod opcodes;
 
 pub use integers::{Misread, read_s32, read_s64, read_u32};
