@@ -7,7 +7,7 @@ use Rattle.ante_wdecode.specs.declared.integers.Misread.{Misread}
 use Rattle.ante_wdecode.specs.declared.integers.Misread.TheVariants.{Short, Leb}
 use Rattle.ante_wdecode.specs.Integers.{last_value, more_value, IsLeb, IsS32, IsCut, Reads, ◌>>=◌, ends_with, leb_at}
 
-abbrev done : {A : Type 0} → A → Result A Misread
+abbrev pub done : {A : Type 0} → A → Result A Misread
 done x = Ok x
 
 bind_ok : {A B : Type 0} (r : Result A Misread) (f : A → Result B Misread) (y : B) → (r >>= f) ≡ Ok y → (x : A) × (r ≡ Ok x) × (f x ≡ Ok y)
@@ -120,9 +120,8 @@ reads_leb signed bits bytes r some h = record {
   short = (λ k. cut_of signed bits bytes some (sym h ∙ k), λ cut. h ∙ is_cut signed bits bytes cut);
 }
 
-abbrev low : Result (ℕ × List ℕ) Misread → Result (ℕ × List ℕ) Misread
-low (Ok x) = Ok (x.0 % 2 ^ 32, x.1)
-low (Err e) = Err e
+abbrev pub low : Result (ℕ × List ℕ) Misread → Result (ℕ × List ℕ) Misread
+low r = r >>= λ x. Ok (x.0 % 2 ^ 32, x.1)
 
 low_found : (bytes : List ℕ) (r : Result (ℕ × List ℕ) Misread) → IfOk r (λ x. (front : List ℕ) × IsLeb true 32 front x.0 × (bytes ≡ front ++ x.1)) → IfOk (low r) (λ x. (front : List ℕ) × IsS32 front x.0 × (bytes ≡ front ++ x.1))
 low_found bytes (Ok x) h = (h.0, (x.0, h.1, refl), h.2)
@@ -138,3 +137,7 @@ reads_low bytes r h = record {
   only = λ n front rest i e. ap low (h.only i.0 front rest i.1 e) ∙ ap (λ m. done (m, rest)) (sym i.2);
   short = (λ k. h.short.0 (low_short r k), λ cut. ap low (h.short.1 cut));
 }
+
+pub low_is : (r : Result (ℕ × List ℕ) Misread) (x : ℕ × List ℕ) → low r ≡ Ok x → (y : ℕ × List ℕ) × (r ≡ Ok y) × (x ≡ (y.0 % 2 ^ 32, y.1))
+low_is (Ok y) x h = (y, refl, sym (ok_is (y.0 % 2 ^ 32, y.1) x h))
+low_is (Err e) x h = absurd cc

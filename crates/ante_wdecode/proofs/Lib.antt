@@ -1,1 +1,3 @@
+mod Labels
 mod Lebs
+mod Singles

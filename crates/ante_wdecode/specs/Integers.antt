@@ -54,6 +54,15 @@ leb_at signed bits (b ∷ bytes) =
     if nat_lt b 128 then ends_with (last_value signed bits b) bytes
     else (if nat_lt 7 bits then (leb_at signed (bits - 7) bytes >>= λ high. Ok (more_value b high.0, high.1)) else Err Leb)
 
+abbrev pub u32_at : List ℕ → Result (ℕ × List ℕ) Misread
+u32_at bytes = leb_at false 32 bytes
+
+abbrev pub s32_at : List ℕ → Result (ℕ × List ℕ) Misread
+s32_at bytes = leb_at true 32 bytes >>= λ x. Ok (x.0 % 2 ^ 32, x.1)
+
+abbrev pub s64_at : List ℕ → Result (ℕ × List ℕ) Misread
+s64_at bytes = leb_at true 64 bytes
+
 -- What a call answers, seen by view.
 abbrev pub seen : {X Y : Type 0} → (X → Y) → Result X Misread → Result Y Misread
 seen view (Ok x) = Ok (view x)
