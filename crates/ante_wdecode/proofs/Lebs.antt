@@ -1,6 +1,5 @@
 -- What is read is spelled so, what is spelled so is read, and why nothing is.
-use Rattle.std.proofs.Common.{◌≡◌, ◌⊎◌, ℕ, zero, suc, ◌+◌, ◌-◌, ◌*◌, ◌%◌, ◌^◌, ◌<◌, ◌≤◌, Bool, true, false, cond, nat_lt, List, [], ◌∷◌, ◌++◌, length, Option, None, Some, Result, Ok, Err, IfOk, ◌↔◌, refl, sym, ap, subst, ◌∙◌, arith, inl, inr, ⊎_elim}
-use Rattle.std.specs.List.{AllByRecursion}
+use Rattle.std.proofs.Common.{◌≡◌, ◌⊎◌, ℕ, ◌+◌, ◌-◌, ◌*◌, ◌%◌, ◌^◌, ◌<◌, ◌≤◌, Bool, true, false, cond, nat_lt, List, [], ◌∷◌, ◌++◌, Option, None, Some, Result, Ok, Err, IfOk, refl, sym, ap, ◌∙◌, arith, inl, inr, ⊎_elim}
 use Rattle.std.proofs.lemmas.Bool.{ltb-false, ltb-true, lt-ltb, le-ltb}
 use Rattle.std.proofs.lemmas.Nat.{pow-add}
 use Rattle.ante_wdecode.specs.declared.integers.Misread.{Misread}
@@ -37,9 +36,9 @@ leb_found signed bits [] x h = absurd cc
 leb_found signed bits (b ∷ bytes) x h = ⊎_elim
     (λ p. let e = ended (last_value signed bits b) bytes x p.1 in (b ∷ [], (ltb-true b 128 p.0, e.0), ap (λ (z : List ℕ). b ∷ z) e.1))
     (λ p. ⊎_elim
-      (λ q. let r = bind_ok (leb_at signed (bits - 7) bytes) _ x q.1 in more (ltb-false b 128 p.0) (ltb-true 7 bits q.0) r.0 (ok_is _ x r.2) (leb_found signed (bits - 7) bytes r.0 r.1))
-      (λ q. absurd (never q.1))
-      (chosen (nat_lt 7 bits) _ (Err Leb) (Ok x) p.1))
+    (λ q. let r = bind_ok (leb_at signed (bits - 7) bytes) _ x q.1 in more (ltb-false b 128 p.0) (ltb-true 7 bits q.0) r.0 (ok_is _ x r.2) (leb_found signed (bits - 7) bytes r.0 r.1))
+    (λ q. absurd (never q.1))
+    (chosen (nat_lt 7 bits) _ (Err Leb) (Ok x) p.1))
     (chosen (nat_lt b 128) (ends_with (last_value signed bits b) bytes) _ (Ok x) h)
   where
     never : {A : Type 0} {e : Misread} {y : A} → Err e ≡ Ok y → ⊥
@@ -89,12 +88,12 @@ cut_of signed bits [] some h = (some, tt)
 cut_of signed bits (b ∷ bytes) some h = ⊎_elim
     (λ p. absurd (never_short (last_value signed bits b) bytes p.1))
     (λ p. ⊎_elim
-      (λ q.
-        let lt = ltb-true 7 bits q.0 in
-        let r = cut_of signed (bits - 7) bytes (omega arith) (bind_err (leb_at signed (bits - 7) bytes) (λ high. (more_value b high.0, high.1)) Short q.1) in
-        (omega (arith, r.0, lt), (ltb-false b 128 p.0, r.1)))
-      (λ q. absurd (other q.1))
-      (chosen (nat_lt 7 bits) _ (Err Leb) (Err Short) p.1))
+    (λ q.
+    let lt = ltb-true 7 bits q.0 in
+    let r = cut_of signed (bits - 7) bytes (omega arith) (bind_err (leb_at signed (bits - 7) bytes) (λ high. (more_value b high.0, high.1)) Short q.1) in
+    (omega (arith, r.0, lt), (ltb-false b 128 p.0, r.1)))
+    (λ q. absurd (other q.1))
+    (chosen (nat_lt 7 bits) _ (Err Leb) (Err Short) p.1))
     (chosen (nat_lt b 128) (ends_with (last_value signed bits b) bytes) _ (Err Short) h)
   where
     other : {A : Type 0} → let l : Result A Misread = Err Leb in l ≡ Err Short → ⊥

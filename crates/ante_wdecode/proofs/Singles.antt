@@ -1,5 +1,5 @@
 -- Instructions without bodies: what is spelled is read, and what is read is spelled.
-use Rattle.std.proofs.Common.{◌≡◌, ◌⊎◌, ℕ, zero, suc, ◌+◌, ◌%◌, ◌^◌, ◌≤◌, Bool, true, false, cond, nat_eq, nat_lt, List, [], ◌∷◌, ◌++◌, length, Option, None, Some, Result, Ok, Err, refl, sym, ap, subst, ◌∙◌, append_assoc, arith, inl, inr, ⊎_elim}
+use Rattle.std.proofs.Common.{◌≡◌, ◌⊎◌, ℕ, zero, suc, ◌≤◌, Bool, true, false, cond, nat_eq, nat_lt, List, [], ◌∷◌, ◌++◌, length, Option, None, Some, Result, Ok, Err, refl, sym, ap, subst, ◌∙◌, append_assoc, arith, inl, inr, ⊎_elim}
 use Rattle.std.proofs.lemmas.Bool.{ltb-false, le-ltb, eqb-true}
 use Rattle.ante_wtree.specs.declared.instructions.MemArg.{MemArg}
 use Rattle.ante_wtree.specs.declared.instructions.PlainInstr.TheVariants as plain
@@ -8,8 +8,8 @@ use Rattle.ante_wdecode.specs.declared.integers.Misread.{Misread}
 use Rattle.ante_wdecode.specs.declared.opcodes.Lead.{Lead}
 use Rattle.ante_wdecode.specs.declared.opcodes.Lead.TheVariants as lead
 use Rattle.ante_wdecode.specs.Integers.{IsU32, IsS32, IsS64, leb_at, u32_at, s32_at, s64_at}
-use Rattle.ante_wdecode.specs.Opcodes.{among, opcodes, Leads}
-use Rattle.ante_wdecode.specs.Instructions.{Before, AreU32, IsVector, IsMemArg, indexed_of, Completes, IsSingle}
+use Rattle.ante_wdecode.specs.Opcodes.{among, opcodes}
+use Rattle.ante_wdecode.specs.Instructions.{AreU32, IsVector, IsMemArg, indexed_of, Completes, IsSingle}
 use Rattle.ante_wdecode.specs.Reading.{◌>>=◌, value_of, number_at, labels_at, table_at, memarg_at, zero_at, rest_at, single_at}
 use Rattle.ante_wdecode.proofs.Lebs.{leb_again, leb_found, done, low, low_is}
 
@@ -134,7 +134,7 @@ labels_found (suc n) bytes x h =
     let g = labels_found n a.0.1 b.0 b.1 in
     let y : List ℕ × List ℕ = (a.0.0 ∷ b.0.0, b.0.1) in
     subst (λ (z : List ℕ × List ℕ). (front : List ℕ) × AreU32 z.0 front × (length z.0 ≡ suc n) × (bytes ≡ front ++ z.1)) (some_is y x b.2)
-      (f.0 ++ g.0, (f.0, g.0, f.1, g.1, refl), ap suc g.2, joined bytes f.0 g.0 a.0.1 b.0.1 f.2 g.3)
+    (f.0 ++ g.0, (f.0, g.0, f.1, g.1, refl), ap suc g.2, joined bytes f.0 g.0 a.0.1 b.0.1 f.2 g.3)
 
 table_again : (ns : List ℕ) (bytes tail : List ℕ) → length ns ≤ 8192 → IsVector ns bytes → table_at (bytes ++ tail) ≡ some ns tail
 table_again ns bytes tail le h =

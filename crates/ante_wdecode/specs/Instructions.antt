@@ -1,5 +1,5 @@
 -- The instructions (section 5.4).
-use Rattle.std.specs.Prelude.{◌≡◌, ℕ, ◌≤◌, List, [], ◌∷◌, ◌++◌, length, Option, None, Some}
+use Rattle.std.specs.Prelude.{◌≡◌, ℕ, ◌≤◌, List, [], ◌∷◌, ◌++◌, length}
 use Rattle.ante_wtree.specs.declared.instructions.MemArg.{MemArg}
 use Rattle.ante_wtree.specs.declared.instructions.PlainInstr.{PlainInstr}
 use Rattle.ante_wtree.specs.declared.instructions.PlainInstr.TheVariants as plain

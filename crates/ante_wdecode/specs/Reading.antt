@@ -1,5 +1,5 @@
 -- What is read at the front of some bytes, and the bytes after it.
-use Rattle.std.specs.Prelude.{◌≡◌, ℕ, zero, suc, List, [], ◌∷◌, length, Option, None, Some, Result, Ok, Err, nat_eq, nat_lt, if◌then◌else◌}
+use Rattle.std.specs.Prelude.{◌≡◌, ℕ, zero, suc, List, [], ◌∷◌, Option, None, Some, Result, Ok, Err, nat_eq, nat_lt, if◌then◌else◌}
 use Rattle.ante_wtree.specs.declared.instructions.MemArg.{MemArg}
 use Rattle.ante_wtree.specs.declared.instructions.PlainInstr.TheVariants as plain
 use Rattle.ante_wtree.specs.Expressions.{Expression, Plain, Br, BrIf, BrTable, Return, Call, CallIndirect, MemoryGrow}

@@ -195,7 +195,11 @@ fn is_float(byte: u8) -> bool {
 }
 
 fn unknown(byte: u8) -> DecodeKind {
-    if is_float(byte) { DecodeKind::Float } else { DecodeKind::Opcode }
+    if is_float(byte) {
+        DecodeKind::Float
+    } else {
+        DecodeKind::Opcode
+    }
 }
 
 pub fn single(alloc: Global, bytes: &[u8]) -> Result<(Instr, &[u8]), Unread>

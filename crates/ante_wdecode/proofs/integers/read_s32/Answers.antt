@@ -1,5 +1,5 @@
-use Rattle.std.proofs.Common.{◌≡◌, ℕ, ◌%◌, ◌^◌, List, true, false, Result, Ok, Err, sym, ap, arith}
-use Rattle.ante_wdecode.proofs.Lebs.{leb_found, unsigned_below, reads_leb, reads_low, done}
+use Rattle.std.proofs.Common.{◌%◌, ◌^◌, true, Ok, Err, ap, arith}
+use Rattle.ante_wdecode.proofs.Lebs.{reads_leb, reads_low, done}
 use Rattle.ante_wdecode.specs.Integers.{◌>>=◌}
 use Rattle.ante_wdecode.proofs.integers.read_s32.Goals as goal
 

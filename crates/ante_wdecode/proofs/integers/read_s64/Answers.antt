@@ -1,5 +1,5 @@
-use Rattle.std.proofs.Common.{true, false, Ok, Err, sym, arith}
-use Rattle.ante_wdecode.proofs.Lebs.{leb_found, unsigned_below, reads_leb, reads_low}
+use Rattle.std.proofs.Common.{true, Ok, Err, arith}
+use Rattle.ante_wdecode.proofs.Lebs.{reads_leb}
 use Rattle.ante_wdecode.proofs.integers.read_s64.Goals as goal
 
 pub returns-in-Ok-clause-spelled : goal.returns-in-Ok-clause-spelled

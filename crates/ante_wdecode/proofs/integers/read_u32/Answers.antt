@@ -1,5 +1,5 @@
-use Rattle.std.proofs.Common.{true, false, Ok, Err, sym, arith}
-use Rattle.ante_wdecode.proofs.Lebs.{leb_found, unsigned_below, reads_leb, reads_low}
+use Rattle.std.proofs.Common.{false, Ok, Err, sym, arith}
+use Rattle.ante_wdecode.proofs.Lebs.{leb_found, unsigned_below, reads_leb}
 use Rattle.ante_wdecode.proofs.integers.read_u32.Goals as goal
 
 pub overflow_cast-result : goal.overflow_cast-result

@@ -1,6 +1,4 @@
-use Rattle.std.proofs.Common.{◌≡◌, ◌-◌, ◌+◌, subst}
-use Rattle.ante_wdecode.proofs.Labels.{goes_on, with_front}
-use Rattle.ante_wdecode.specs.Reading.{labels_at}
+use Rattle.ante_wdecode.proofs.Labels.{goes_on}
 use Rattle.ante_wdecode.proofs.single.labels.Goals as goal
 
 pub loop-preserved : goal.loop-preserved

@@ -1,5 +1,5 @@
-use Rattle.std.proofs.Common.{◌≡◌, ◌++◌, ℕ, List, Option, Some, None, sym, ap, subst, ◌∙◌}
-use Rattle.ante_wtree.specs.Expressions.{Expression, put}
+use Rattle.std.proofs.Common.{◌≡◌, ◌++◌, ℕ, List, Option, sym, ap, subst, ◌∙◌}
+use Rattle.ante_wtree.specs.Expressions.{put}
 use Rattle.ante_wdecode.specs.declared.fault.Unread.{Unread}
 use Rattle.ante_wdecode.specs.Instructions.{IsSingle}
 use Rattle.ante_wdecode.specs.Reading.{single_at, Fails}

@@ -1,4 +1,4 @@
-use Rattle.std.proofs.Common.{◌≡◌, Some, List, ℕ, sym, ap, ◌∙◌}
+use Rattle.std.proofs.Common.{sym, ap, ◌∙◌}
 use Rattle.ante_wtree.specs.Expressions.{put, Plain}
 use Rattle.ante_wdecode.specs.Instructions.{indexed_of}
 use Rattle.ante_wdecode.specs.Reading.{rest_at, number_at}
