@@ -1,3 +1,4 @@
 mod Labels
 mod Lebs
+mod Sequences
 mod Singles

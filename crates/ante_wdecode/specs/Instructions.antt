@@ -1,9 +1,11 @@
 -- The instructions (section 5.4).
-use Rattle.std.specs.Prelude.{◌≡◌, ℕ, ◌≤◌, List, [], ◌∷◌, ◌++◌, length}
+use Rattle.std.specs.Prelude.{◌≡◌, ◌⊎◌, ℕ, zero, suc, ◌≤◌, List, [], ◌∷◌, ◌++◌, length, Option, None, Some}
+use Rattle.ante_wtree.specs.declared.instructions.ValueKind.{ValueKind}
+use Rattle.ante_wtree.specs.declared.instructions.ValueKind.TheVariants.{I32, I64}
 use Rattle.ante_wtree.specs.declared.instructions.MemArg.{MemArg}
 use Rattle.ante_wtree.specs.declared.instructions.PlainInstr.{PlainInstr}
 use Rattle.ante_wtree.specs.declared.instructions.PlainInstr.TheVariants as plain
-use Rattle.ante_wtree.specs.Expressions.{Expression, Plain, Br, BrIf, BrTable, Return, Call, CallIndirect, MemoryGrow}
+use Rattle.ante_wtree.specs.Expressions.{Expression, Over, Plain, Block, Loop, If, Br, BrIf, BrTable, Return, Call, CallIndirect, MemoryGrow}
 use Rattle.ante_wdecode.specs.declared.opcodes.Indexed.{Indexed}
 use Rattle.ante_wdecode.specs.declared.opcodes.Indexed.TheVariants as indexed
 use Rattle.ante_wdecode.specs.declared.opcodes.Lead.{Lead}
@@ -59,3 +61,42 @@ Completes lead.End bytes make = ⊥
 -- an instruction without bodies
 abbrev pub IsSingle : (Expression → Expression) → List ℕ → Type 0
 IsSingle make bytes = (opcode : ℕ) × (more : List ℕ) × (l : Lead) × Leads opcode l × Completes l more make × (bytes ≡ opcode ∷ more)
+
+-- blocktype: the result's kind, where there is one (section 5.3.2)
+abbrev pub kind_byte : Option ValueKind → ℕ
+kind_byte None = 0x40
+kind_byte (Some I32) = 0x7F
+kind_byte (Some I64) = 0x7E
+
+-- an instruction with one body, which ends with `end`
+abbrev pub Encloses : Lead → Option ValueKind → (List ℕ → Type 0) → List ℕ → Type 0
+Encloses l kind body bytes = (opcode : ℕ) × (close : ℕ) × (inner : List ℕ) × Leads opcode l × Leads close lead.End × body inner × (bytes ≡ opcode ∷ kind_byte kind ∷ (inner ++ close ∷ []))
+
+-- an instruction with two bodies, between which `else` stands
+abbrev pub Branches : Option ValueKind → (one two : List ℕ → Type 0) → List ℕ → Type 0
+Branches kind one two bytes = (opcode : ℕ) × (middle : ℕ) × (close : ℕ) × (first : List ℕ) × (second : List ℕ) × Leads opcode lead.If × Leads middle lead.Else × Leads close lead.End × one first × two second
+    × (bytes ≡ opcode ∷ kind_byte kind ∷ (first ++ middle ∷ (second ++ close ∷ [])))
+
+-- Instructions one after another, in which blocks are nested so deep at most. An `if` whose second body is empty may lack
+-- its `else`.
+abbrev pub Spells : (depth : ℕ) → Expression → List ℕ → Type 0
+Spells depth Over bytes = bytes ≡ []
+Spells depth (Plain i rest) bytes = Before (IsSingle (Plain i)) (Spells depth rest) bytes
+Spells depth (Br label rest) bytes = Before (IsSingle (Br label)) (Spells depth rest) bytes
+Spells depth (BrIf label rest) bytes = Before (IsSingle (BrIf label)) (Spells depth rest) bytes
+Spells depth (BrTable labels label rest) bytes = Before (IsSingle (BrTable labels label)) (Spells depth rest) bytes
+Spells depth (Return rest) bytes = Before (IsSingle Return) (Spells depth rest) bytes
+Spells depth (Call function rest) bytes = Before (IsSingle (Call function)) (Spells depth rest) bytes
+Spells depth (CallIndirect n rest) bytes = Before (IsSingle (CallIndirect n)) (Spells depth rest) bytes
+Spells depth (MemoryGrow rest) bytes = Before (IsSingle MemoryGrow) (Spells depth rest) bytes
+Spells zero (Block kind body rest) bytes = ⊥
+Spells zero (Loop kind body rest) bytes = ⊥
+Spells zero (If kind one two rest) bytes = ⊥
+Spells (suc depth) (Block kind body rest) bytes = Before (Encloses lead.Block kind (Spells depth body)) (Spells (suc depth) rest) bytes
+Spells (suc depth) (Loop kind body rest) bytes = Before (Encloses lead.Loop kind (Spells depth body)) (Spells (suc depth) rest) bytes
+Spells (suc depth) (If kind one two rest) bytes =
+    Before (λ a. ((two ≡ Over) × Encloses lead.If kind (Spells depth one) a) ⊎ Branches kind (Spells depth one) (Spells depth two) a) (Spells (suc depth) rest) bytes
+
+-- an expression (section 5.4.6): instructions, and `end`
+abbrev pub IsExpression : (depth : ℕ) → Expression → List ℕ → Type 0
+IsExpression depth e bytes = (inner : List ℕ) × (close : ℕ) × Spells depth e inner × Leads close lead.End × (bytes ≡ inner ++ close ∷ [])

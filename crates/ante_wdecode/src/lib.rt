@@ -3,8 +3,10 @@
 
 mod fault;
 mod integers;
+mod nested;
 mod opcodes;
 mod single;
 
 pub use fault::{DecodeKind, Unread};
 pub use integers::{Misread, read_s32, read_s64, read_u32};
+pub use nested::read_expression;

@@ -128,7 +128,7 @@ fn plain_instr(plain: PlainInstr) -> Instr
     }
 }
 
-fn rest_of(alloc: Global, lead: Lead, bytes: &[u8]) -> Result<(Instr, &[u8]), Unread>
+pub fn rest_of(alloc: Global, lead: Lead, bytes: &[u8]) -> Result<(Instr, &[u8]), Unread>
     ensures { Gives (λ x. (put x.0, x.1.now)) result (rest_at lead bytes.now) }
 {
     match lead {
@@ -194,7 +194,7 @@ fn is_float(byte: u8) -> bool {
     matches!(byte, 0x2A | 0x2B | 0x38 | 0x39 | 0x43 | 0x44 | 0x5B..=0x66 | 0x8B..=0xA6 | 0xA8..=0xAB | 0xAE..=0xBF)
 }
 
-fn unknown(byte: u8) -> DecodeKind {
+pub fn unknown(byte: u8) -> DecodeKind {
     if is_float(byte) {
         DecodeKind::Float
     } else {
