@@ -1,3 +1,4 @@
+mod Grammar
 mod Labels
 mod Lebs
 mod Sequences

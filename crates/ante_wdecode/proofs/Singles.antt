@@ -23,18 +23,18 @@ some x rest = Some (x, rest)
 abbrev Found : {A : Type 0} → (List ℕ → A → Type 0) → List ℕ → A × List ℕ → Type 0
 Found Is bytes x = (front : List ℕ) × Is front x.0 × (bytes ≡ front ++ x.1)
 
-bind_some : {A B : Type 0} (r : Option A) (f : A → Option B) (y : B) → (r >>= f) ≡ Some y → (x : A) × (r ≡ Some x) × (f x ≡ Some y)
+pub bind_some : {A B : Type 0} (r : Option A) (f : A → Option B) (y : B) → (r >>= f) ≡ Some y → (x : A) × (r ≡ Some x) × (f x ≡ Some y)
 bind_some None f y e = absurd cc
 bind_some (Some x) f y e = (x, refl, e)
 
-some_is : {A : Type 0} (x y : A) → Some x ≡ Some y → x ≡ y
+pub some_is : {A : Type 0} (x y : A) → Some x ≡ Some y → x ≡ y
 some_is x y e = cc
 
 value_is : {A : Type 0} (r : Result A Misread) (x : A) → value_of r ≡ Some x → r ≡ Ok x
 value_is (Ok y) x e = ap done (some_is y x e)
 value_is (Err d) x e = absurd cc
 
-chosen : {A : Type 0} (b : Bool) (x y z : A) → cond b x y ≡ z → ((b ≡ true) × (x ≡ z)) ⊎ ((b ≡ false) × (y ≡ z))
+pub chosen : {A : Type 0} (b : Bool) (x y z : A) → cond b x y ≡ z → ((b ≡ true) × (x ≡ z)) ⊎ ((b ≡ false) × (y ≡ z))
 chosen true x y z h = inl (refl, h)
 chosen false x y z h = inr (refl, h)
 

@@ -10,3 +10,4 @@ mod single;
 pub use fault::{DecodeKind, Unread};
 pub use integers::{Misread, read_s32, read_s64, read_u32};
 pub use nested::read_expression;
+pub use single::read_single;

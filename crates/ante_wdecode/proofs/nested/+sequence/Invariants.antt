@@ -17,8 +17,8 @@ decreases-choice l = 4 * l.depth
 abbrev pub decreases-next_part : goal.decreases-next_part
 decreases-next_part l = 4 * l.depth + 1
 
-abbrev pub invariant-items : goal.invariant-items
-invariant-items l = SoFar l.depth l.fn.bytes l.front.items l.rest
+abbrev pub invariant-sequence-items : goal.invariant-sequence-items
+invariant-sequence-items l = SoFar l.depth l.fn.bytes l.front.items l.rest
 
-abbrev pub decreases-items : goal.decreases-items
-decreases-items l = length l.rest
+abbrev pub decreases-sequence-items : goal.decreases-sequence-items
+decreases-sequence-items l = length l.rest
