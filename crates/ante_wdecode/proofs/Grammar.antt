@@ -110,3 +110,162 @@ body_found d read f bytes x h =
     ended : (s : Sequence) → SeqOf d bytes s → closed s ≡ Some x → (a : List ℕ) × (b : ℕ) × Spells d x.0 a × Leads b lead.End × (bytes ≡ a ++ b ∷ x.1)
     ended (e, true, rest) o k = absurd (never k)
     ended (e, false, rest) o k = subst (λ (z : Expression × List ℕ). (a : List ℕ) × (b : ℕ) × Spells d z.0 a × Leads b lead.End × (bytes ≡ a ++ b ∷ z.1)) (some_is (e, rest) x k) o
+
+abbrev pub block_lead : Bool → Lead
+block_lead true = lead.Loop
+block_lead false = lead.Block
+
+block_spells : (d : ℕ) (looped : Bool) (b e : ℕ) (kind : Option ValueKind) (body : Expression) (a : List ℕ) → Leads b (block_lead looped) → Leads e lead.End → Spells d body a →
+    (c : Expression) (y : List ℕ) → Spells (suc d) c y → Spells (suc d) (block_of looped kind body c) (b ∷ (kind_byte kind ∷ (a ++ e ∷ []) ++ y))
+block_spells d true b e kind body a k l s c y h = (b ∷ kind_byte kind ∷ (a ++ e ∷ []), y, (b, e, a, k, l, s, refl), h, refl)
+block_spells d false b e kind body a k l s c y h = (b ∷ kind_byte kind ∷ (a ++ e ∷ []), y, (b, e, a, k, l, s, refl), h, refl)
+
+block_found : (d : ℕ) (inner : List ℕ → Option Sequence) → Inner d inner → (looped : Bool) (b : ℕ) (bytes : List ℕ) (x : Make × List ℕ) → Leads b (block_lead looped) → block_at (block_of looped) inner bytes ≡ Some x → Of d (b ∷ bytes) (One x.0) x.1
+block_found zero inner f looped b bytes x k h =
+    let q = bind_some (kind_at bytes) (λ k. body_at inner k.1 >>= λ b. made (block_of looped k.0 b.0) b.1) x h in
+    let r = bind_some (body_at inner q.0.1) (λ b. made (block_of looped q.0.0 b.0) b.1) x q.2 in
+    let s = bind_some (inner q.0.1) closed r.0 r.1 in
+    absurd (f q.0.1 s.0 s.1)
+block_found (suc d) inner f looped b bytes x k h =
+    let q = bind_some (kind_at bytes) (λ k. body_at inner k.1 >>= λ b. made (block_of looped k.0 b.0) b.1) x h in
+    let r = bind_some (body_at inner q.0.1) (λ b. made (block_of looped q.0.0 b.0) b.1) x q.2 in
+    let g = body_found d inner f q.0.1 r.0 r.1 in
+    let split : bytes ≡ kind_byte q.0.0 ∷ (g.0 ++ g.1 ∷ []) ++ r.0.1 = kind_found bytes q.0 q.1 ∙ ap (λ (z : List ℕ). kind_byte q.0.0 ∷ z) (g.4 ∙ sym (append_assoc g.0 (g.1 ∷ []) r.0.1)) in
+    let o : Of (suc d) (b ∷ bytes) (One (block_of looped q.0.0 r.0.0)) r.0.1 = (b, kind_byte q.0.0 ∷ (g.0 ++ g.1 ∷ []), ap (λ (z : List ℕ). b ∷ z) split, block_spells d looped b g.1 q.0.0 r.0.0 g.0 k g.3 g.2) in
+    subst (λ (z : Make × List ℕ). Of (suc d) (b ∷ bytes) (One z.0) z.1) (some_is (block_of looped q.0.0 r.0.0, r.0.1) x r.2) o
+
+second_found : (d : ℕ) (inner : List ℕ → Option Sequence) → Inner (suc d) inner → (b : ℕ) (bytes : List ℕ) (kind : Option ValueKind) (y : List ℕ) (x : Make × List ℕ) → Leads b lead.If → bytes ≡ kind_byte kind ∷ y →
+    (s : Sequence) → SeqOf d y s → second_at inner kind s ≡ Some x → Of (suc d) (b ∷ bytes) (One x.0) x.1
+second_found d inner f b bytes kind y x k p (first, false, rest) o h =
+    let split : bytes ≡ kind_byte kind ∷ (o.0 ++ o.1 ∷ []) ++ rest = p ∙ ap (λ (z : List ℕ). kind_byte kind ∷ z) (o.4 ∙ sym (append_assoc o.0 (o.1 ∷ []) rest)) in
+    let front : List ℕ = kind_byte kind ∷ (o.0 ++ o.1 ∷ []) in
+    let found : Of (suc d) (b ∷ bytes) (One (If kind first Over)) rest = (b, front, ap (λ (z : List ℕ). b ∷ z) split, λ c z s. (b ∷ front, z, inl (refl, (b, o.1, o.0, k, o.3, o.2, refl)), s, refl)) in
+    subst (λ (z : Make × List ℕ). Of (suc d) (b ∷ bytes) (One z.0) z.1) (some_is (If kind first Over, rest) x h) found
+second_found d inner f b bytes kind y x k p (first, true, rest) o h =
+    let t = bind_some (body_at inner rest) (λ b. made (If kind first b.0) b.1) x h in
+    let g = body_found d inner f rest t.0 t.1 in
+    let tail : List ℕ = g.0 ++ g.1 ∷ [] in
+    let split : bytes ≡ kind_byte kind ∷ (o.0 ++ o.1 ∷ tail) ++ t.0.1 =
+      p ∙ ap (λ (z : List ℕ). kind_byte kind ∷ z) (o.4 ∙ ap (λ (z : List ℕ). o.0 ++ o.1 ∷ z) (g.4 ∙ sym (append_assoc g.0 (g.1 ∷ []) t.0.1)) ∙ sym (append_assoc o.0 (o.1 ∷ tail) t.0.1)) in
+    let front : List ℕ = kind_byte kind ∷ (o.0 ++ o.1 ∷ tail) in
+    let found : Of (suc d) (b ∷ bytes) (One (If kind first t.0.0)) t.0.1 = (b, front, ap (λ (z : List ℕ). b ∷ z) split, λ c z s. (b ∷ front, z, inr (b, o.1, g.1, o.0, g.0, k, o.3, g.3, o.2, g.2, refl), s, refl)) in
+    subst (λ (z : Make × List ℕ). Of (suc d) (b ∷ bytes) (One z.0) z.1) (some_is (If kind first t.0.0, t.0.1) x t.2) found
+
+if_found : (d : ℕ) (inner : List ℕ → Option Sequence) → Inner d inner → (b : ℕ) (bytes : List ℕ) (x : Make × List ℕ) → Leads b lead.If → if_at inner bytes ≡ Some x → Of d (b ∷ bytes) (One x.0) x.1
+if_found zero inner f b bytes x k h =
+    let q = bind_some (kind_at bytes) (λ k. inner k.1 >>= second_at inner k.0) x h in
+    let s = bind_some (inner q.0.1) (second_at inner q.0.0) x q.2 in
+    absurd (f q.0.1 s.0 s.1)
+if_found (suc d) inner f b bytes x k h =
+    let q = bind_some (kind_at bytes) (λ k. inner k.1 >>= second_at inner k.0) x h in
+    let s = bind_some (inner q.0.1) (second_at inner q.0.0) x q.2 in
+    second_found d inner f b bytes q.0.0 q.0.1 x k (kind_found bytes q.0 q.1) s.0 (f q.0.1 s.0 s.1) s.2
+
+as_one : (d : ℕ) (bytes : List ℕ) (r : Option (Make × List ℕ)) (x : Item × List ℕ) → ((y : Make × List ℕ) → r ≡ Some y → Of d bytes (One y.0) y.1) → (r >>= one) ≡ Some x → Of d bytes x.0 x.1
+as_one d bytes r x f h =
+    let y = bind_some r one x h in
+    subst (λ (z : Item × List ℕ). Of d bytes z.0 z.1) (some_is (One y.0.0, y.0.1) x y.2) (f y.0 y.1)
+
+led_found : (d : ℕ) (inner : List ℕ → Option Sequence) → Inner d inner → (b : ℕ) (bytes : List ℕ) (x : Item × List ℕ) (l : Lead) → Leads b l → led_at inner l bytes ≡ Some x → Of d (b ∷ bytes) x.0 x.1
+led_found d inner f b bytes x lead.Else k h = subst (λ (z : Item × List ℕ). Of d (b ∷ bytes) z.0 z.1) (some_is (Ends true, bytes) x h) (b, k, refl)
+led_found d inner f b bytes x lead.End k h = subst (λ (z : Item × List ℕ). Of d (b ∷ bytes) z.0 z.1) (some_is (Ends false, bytes) x h) (b, k, refl)
+led_found d inner f b bytes x lead.Block k h = as_one d (b ∷ bytes) (block_at (block_of false) inner bytes) x (λ y e. block_found d inner f false b bytes y k e) h
+led_found d inner f b bytes x lead.Loop k h = as_one d (b ∷ bytes) (block_at (block_of true) inner bytes) x (λ y e. block_found d inner f true b bytes y k e) h
+led_found d inner f b bytes x lead.If k h = as_one d (b ∷ bytes) (if_at inner bytes) x (λ y e. if_found d inner f b bytes y k e) h
+led_found d inner f b bytes x (lead.Fixed i) k h = single_of d (lead.Fixed i) b bytes x k h
+led_found d inner f b bytes x (lead.Indexed i) k h = single_of d (lead.Indexed i) b bytes x k h
+led_found d inner f b bytes x (lead.Load i) k h = single_of d (lead.Load i) b bytes x k h
+led_found d inner f b bytes x (lead.Store i) k h = single_of d (lead.Store i) b bytes x k h
+led_found d inner f b bytes x lead.MemorySize k h = single_of d lead.MemorySize b bytes x k h
+led_found d inner f b bytes x lead.MemoryGrow k h = single_of d lead.MemoryGrow b bytes x k h
+led_found d inner f b bytes x lead.I32Const k h = single_of d lead.I32Const b bytes x k h
+led_found d inner f b bytes x lead.I64Const k h = single_of d lead.I64Const b bytes x k h
+led_found d inner f b bytes x lead.Br k h = single_of d lead.Br b bytes x k h
+led_found d inner f b bytes x lead.BrIf k h = single_of d lead.BrIf b bytes x k h
+led_found d inner f b bytes x lead.BrTable k h = single_of d lead.BrTable b bytes x k h
+led_found d inner f b bytes x lead.Return k h = single_of d lead.Return b bytes x k h
+led_found d inner f b bytes x lead.Call k h = single_of d lead.Call b bytes x k h
+led_found d inner f b bytes x lead.CallIndirect k h = single_of d lead.CallIndirect b bytes x k h
+
+item_found : (d : ℕ) (inner : List ℕ → Option Sequence) → Inner d inner → (bytes : List ℕ) (x : Item × List ℕ) → item_at inner bytes ≡ Some x → Of d bytes x.0 x.1
+item_found d inner f [] x h = absurd cc
+item_found d inner f (b ∷ bytes) x h =
+    let l = bind_some (among opcodes b) (λ l. led_at inner l bytes) x h in
+    led_found d inner f b bytes x l.0 l.1 l.2
+
+inner_found : (read : ℕ → List ℕ → Option Sequence) → ((d : ℕ) (y : List ℕ) (s : Sequence) → read d y ≡ Some s → SeqOf d y s) → (d : ℕ) → Inner d (inside read d)
+inner_found read f zero y s h = absurd cc
+inner_found read f (suc d) y s h = f d y s h
+
+gone : (n d : ℕ) (bytes : List ℕ) (i : Item) (rest : List ℕ) (s : Sequence) → ((y : List ℕ) (t : Sequence) → seq_at n d y ≡ Some t → SeqOf d y t) → Of d bytes i rest → go_on (seq_at n d) (i, rest) ≡ Some s → SeqOf d bytes s
+gone n d bytes (Ends e) rest s f o h = subst (SeqOf d bytes) (some_is (Over, e, rest) s h) ([], o.0, refl, o.1, o.2)
+gone n d bytes (One make) rest s f o h =
+    let t = bind_some (seq_at n d rest) (λ t. Some (make t.0, t.1, t.2)) s h in
+    let g = f rest t.0 t.1 in
+    let found : SeqOf d bytes (make t.0.0, t.0.1, t.0.2) = (o.0 ∷ (o.1 ++ g.0), g.1, o.3 t.0.0 g.0 g.2, g.3, o.2 ∙ ap (λ (z : List ℕ). o.0 ∷ z) (ap (λ (z : List ℕ). o.1 ++ z) g.4 ∙ sym (append_assoc o.1 g.0 (g.1 ∷ t.0.2)))) in
+    subst (SeqOf d bytes) (some_is (make t.0.0, t.0.1, t.0.2) s t.2) found
+
+pub seq_found : (n d : ℕ) (bytes : List ℕ) (s : Sequence) → seq_at n d bytes ≡ Some s → SeqOf d bytes s
+seq_found zero d bytes s h = absurd cc
+seq_found (suc n) d bytes s h =
+    let x = bind_some (item_at (inside (seq_at n) d) bytes) (go_on (seq_at n d)) s h in
+    gone n d bytes x.0.0 x.0.1 s (seq_found n d) (item_found d (inside (seq_at n) d) (inner_found (seq_at n) (seq_found n) d) bytes x.0 x.1) x.2
+
+pub seq_shorter : (n d : ℕ) (bytes : List ℕ) (e : Expression) (by_else : Bool) (rest : List ℕ) → seq_at n d bytes ≡ Some (e, by_else, rest) → length rest < length bytes
+seq_shorter n d bytes e by_else rest h = let o = seq_found n d bytes (e, by_else, rest) h in omega (arith, ap length o.4, length-append o.0 (o.1 ∷ rest))
+
+of_shorter : (d : ℕ) (bytes : List ℕ) (i : Item) (rest : List ℕ) → Of d bytes i rest → length rest < length bytes
+of_shorter d bytes (Ends e) rest o = omega (arith, ap length o.2)
+of_shorter d bytes (One make) rest o = omega (arith, ap length o.2, length-append o.1 rest)
+
+pub item_shorter : (n d : ℕ) (bytes : List ℕ) (i : Item) (rest : List ℕ) → item_at (inside (seq_at n) d) bytes ≡ Some (i, rest) → length rest < length bytes
+item_shorter n d bytes i rest h = of_shorter d bytes i rest (item_found d (inside (seq_at n) d) (inner_found (seq_at n) (seq_found n) d) bytes (i, rest) h)
+
+-- ---- what is spelled is read
+
+abbrev sequence : Expression → Bool → List ℕ → Option Sequence
+sequence e by_else rest = Some (e, by_else, rest)
+
+abbrev item : Item → List ℕ → Option (Item × List ℕ)
+item i rest = Some (i, rest)
+
+led_single : (inner : List ℕ → Option Sequence) (l : Lead) (bytes more : List ℕ) (make : Make) → Completes l more make → led_at inner l bytes ≡ (rest_at l bytes >>= one)
+led_single inner (lead.Fixed i) bytes more make h = refl
+led_single inner (lead.Indexed i) bytes more make h = refl
+led_single inner (lead.Load i) bytes more make h = refl
+led_single inner (lead.Store i) bytes more make h = refl
+led_single inner lead.MemorySize bytes more make h = refl
+led_single inner lead.MemoryGrow bytes more make h = refl
+led_single inner lead.I32Const bytes more make h = refl
+led_single inner lead.I64Const bytes more make h = refl
+led_single inner lead.Br bytes more make h = refl
+led_single inner lead.BrIf bytes more make h = refl
+led_single inner lead.BrTable bytes more make h = refl
+led_single inner lead.Return bytes more make h = refl
+led_single inner lead.Call bytes more make h = refl
+led_single inner lead.CallIndirect bytes more make h = refl
+led_single inner lead.Block bytes more make h = absurd h
+led_single inner lead.Loop bytes more make h = absurd h
+led_single inner lead.If bytes more make h = absurd h
+led_single inner lead.Else bytes more make h = absurd h
+led_single inner lead.End bytes more make h = absurd h
+
+single_item : (inner : List ℕ → Option Sequence) (make : Make) (x : List ℕ) → IsSingle make x → (tail : List ℕ) → item_at inner (x ++ tail) ≡ item (One make) tail
+single_item inner make x h tail =
+    ap (λ (z : List ℕ). item_at inner (z ++ tail)) h.5
+    ∙ ap (λ o. o >>= λ l. led_at inner l (h.1 ++ tail)) h.3
+    ∙ led_single inner h.2 (h.1 ++ tail) h.1 make h.4
+    ∙ ap (λ r. r >>= one) (rest_again h.2 h.1 make tail h.4)
+
+item_again : (n d : ℕ) (make : Make) (c : Expression) (a x y : List ℕ) (e : Bool) (b : ℕ) (rest : List ℕ) → a ≡ x ++ y → ((tail : List ℕ) → item_at (inside (seq_at n) d) (x ++ tail) ≡ item (One make) tail) →
+    seq_at n d (y ++ b ∷ rest) ≡ sequence c e rest → seq_at (suc n) d (a ++ b ∷ rest) ≡ sequence (make c) e rest
+item_again n d make c a x y e b rest s h g =
+    ap (seq_at (suc n) d) (ap (λ (z : List ℕ). z ++ b ∷ rest) s ∙ append_assoc x y (b ∷ rest))
+    ∙ ap (λ r. r >>= go_on (seq_at n d)) (h (y ++ b ∷ rest))
+    ∙ ap (λ r. r >>= λ t. sequence (make t.0) t.1 t.2) g
+
+less : (n : ℕ) (a x y : List ℕ) → a ≡ x ++ y → 0 < length x → length a < suc n → length y < n
+less n a x y s h lt = omega (arith, ap length s, length-append x y)
+
+single_long : (make : Make) (x : List ℕ) → IsSingle make x → 0 < length x
+single_long make x h = omega (arith, ap length h.5)

@@ -65,7 +65,7 @@ fails_bind : {A B : Type 0} (e : Unread) (r : Option A) (f : A → Option B) →
 fails_bind unread.OutOfMemory r f h = tt
 fails_bind (unread.Fault left kind) r f h = ap (λ x. x >>= f) h
 
-along : {A : Type 0} (e : Unread) (x y : Option A) → x ≡ y → Fails e x → Fails e y
+pub along : {A : Type 0} (e : Unread) (x y : Option A) → x ≡ y → Fails e x → Fails e y
 along e x y k h = subst (Fails e) k h
 
 pub at_fault : (depth : ℕ) (bytes : List ℕ) (front : List Instr) (rest : List ℕ) (e : Unread) →
