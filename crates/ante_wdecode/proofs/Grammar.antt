@@ -1,5 +1,5 @@
 -- Sequences of instructions: what is read is spelled, and what is spelled is read.
-use Rattle.std.proofs.Common.{◌≡◌, ◌⊎◌, ℕ, zero, suc, ◌+◌, ◌-◌, ◌<◌, ◌≤◌, Bool, true, false, cond, nat_eq, List, [], ◌∷◌, ◌++◌, length, Option, None, Some, refl, sym, ap, subst, ◌∙◌, append_assoc, append-nil, arith, inl, inr, ⊎_elim}
+use Rattle.std.proofs.Common.{◌≡◌, ℕ, zero, suc, ◌<◌, Bool, true, false, nat_eq, List, [], ◌∷◌, ◌++◌, length, Option, None, Some, refl, sym, ap, subst, ◌∙◌, append_assoc, arith, inl, inr, ⊎_elim}
 use Rattle.std.proofs.lemmas.Bool.{eqb-true}
 use Rattle.std.proofs.lemmas.List.{length-append}
 use Rattle.ante_wtree.specs.declared.instructions.ValueKind.{ValueKind}
@@ -9,7 +9,7 @@ use Rattle.ante_wtree.specs.Expressions.{Expression, Over, Plain, Block, Loop, I
 use Rattle.ante_wdecode.specs.declared.opcodes.Lead.{Lead}
 use Rattle.ante_wdecode.specs.declared.opcodes.Lead.TheVariants as lead
 use Rattle.ante_wdecode.specs.Opcodes.{among, opcodes, Leads}
-use Rattle.ante_wdecode.specs.Instructions.{Before, Completes, IsSingle, indexed_of, kind_byte, Encloses, Branches, Spells, IsExpression}
+use Rattle.ante_wdecode.specs.Instructions.{Completes, IsSingle, indexed_of, kind_byte, Spells, IsExpression}
 use Rattle.ante_wdecode.specs.Reading.{◌>>=◌, Sequence, Item, Ends, One, rest_at, kind_at, closed, body_at, block_of, block_at, second_at, if_at, one, led_at, item_at, go_on, inside, seq_at}
 use Rattle.ante_wdecode.proofs.Singles.{Make, bind_some, some_is, chosen, rest_found, rest_again}
 
@@ -34,12 +34,12 @@ kind_found [] k h = absurd cc
 kind_found (b ∷ bytes) k h = ⊎_elim
     (λ p. is None 0x40 p.0 p.1 refl)
     (λ p. ⊎_elim
-      (λ q. is (Some I32) 0x7F q.0 q.1 refl)
-      (λ q. ⊎_elim
-        (λ r. is (Some I64) 0x7E r.0 r.1 refl)
-        (λ r. absurd (never r.1))
-        (chosen (nat_eq b 0x7E) (Some (Some I64, bytes)) None (Some k) q.1))
-      (chosen (nat_eq b 0x7F) (Some (Some I32, bytes)) _ (Some k) p.1))
+    (λ q. is (Some I32) 0x7F q.0 q.1 refl)
+    (λ q. ⊎_elim
+    (λ r. is (Some I64) 0x7E r.0 r.1 refl)
+    (λ r. absurd (never r.1))
+    (chosen (nat_eq b 0x7E) (Some (Some I64, bytes)) None (Some k) q.1))
+    (chosen (nat_eq b 0x7F) (Some (Some I32, bytes)) _ (Some k) p.1))
     (chosen (nat_eq b 0x40) (Some (None, bytes)) _ (Some k) h)
   where
     never : None ≡ Some k → ⊥
@@ -146,7 +146,7 @@ second_found d inner f b bytes kind y x k p (first, true, rest) o h =
     let g = body_found d inner f rest t.0 t.1 in
     let tail : List ℕ = g.0 ++ g.1 ∷ [] in
     let split : bytes ≡ kind_byte kind ∷ (o.0 ++ o.1 ∷ tail) ++ t.0.1 =
-      p ∙ ap (λ (z : List ℕ). kind_byte kind ∷ z) (o.4 ∙ ap (λ (z : List ℕ). o.0 ++ o.1 ∷ z) (g.4 ∙ sym (append_assoc g.0 (g.1 ∷ []) t.0.1)) ∙ sym (append_assoc o.0 (o.1 ∷ tail) t.0.1)) in
+    p ∙ ap (λ (z : List ℕ). kind_byte kind ∷ z) (o.4 ∙ ap (λ (z : List ℕ). o.0 ++ o.1 ∷ z) (g.4 ∙ sym (append_assoc g.0 (g.1 ∷ []) t.0.1)) ∙ sym (append_assoc o.0 (o.1 ∷ tail) t.0.1)) in
     let front : List ℕ = kind_byte kind ∷ (o.0 ++ o.1 ∷ tail) in
     let found : Of (suc d) (b ∷ bytes) (One (If kind first t.0.0)) t.0.1 = (b, front, ap (λ (z : List ℕ). b ∷ z) split, λ c z s. (b ∷ front, z, inr (b, o.1, g.1, o.0, g.0, k, o.3, g.3, o.2, g.2, refl), s, refl)) in
     subst (λ (z : Make × List ℕ). Of (suc d) (b ∷ bytes) (One z.0) z.1) (some_is (If kind first t.0.0, t.0.1) x t.2) found
@@ -269,3 +269,119 @@ less n a x y s h lt = omega (arith, ap length s, length-append x y)
 
 single_long : (make : Make) (x : List ℕ) → IsSingle make x → 0 < length x
 single_long make x h = omega (arith, ap length h.5)
+
+over : (n d : ℕ) (e : Bool) (b : ℕ) (rest : List ℕ) → Leads b (term e) → seq_at (suc n) d (b ∷ rest) ≡ sequence Over e rest
+over n d true b rest k = ap (λ o. (o >>= λ l. led_at (inside (seq_at n) d) l rest) >>= go_on (seq_at n d)) k
+over n d false b rest k = ap (λ o. (o >>= λ l. led_at (inside (seq_at n) d) l rest) >>= go_on (seq_at n d)) k
+
+block_led : (inner : List ℕ → Option Sequence) (looped : Bool) (bytes : List ℕ) → led_at inner (block_lead looped) bytes ≡ (block_at (block_of looped) inner bytes >>= one)
+block_led inner true bytes = refl
+block_led inner false bytes = refl
+
+block_item : (inner : List ℕ → Option Sequence) (looped : Bool) (kind : Option ValueKind) (body : Expression) (x a : List ℕ) (op close : ℕ) → Leads op (block_lead looped) → x ≡ op ∷ kind_byte kind ∷ (a ++ close ∷ []) →
+    ((tail : List ℕ) → inner (a ++ close ∷ tail) ≡ sequence body false tail) → (tail : List ℕ) → item_at inner (x ++ tail) ≡ item (One (block_of looped kind body)) tail
+block_item inner looped kind body x a op close k e g tail =
+    let w : List ℕ = (a ++ close ∷ []) ++ tail in
+    ap (λ (z : List ℕ). item_at inner (z ++ tail)) e
+    ∙ ap (λ o. o >>= λ l. led_at inner l (kind_byte kind ∷ w)) k
+    ∙ block_led inner looped (kind_byte kind ∷ w)
+    ∙ ap (λ r. (r >>= λ k. body_at inner k.1 >>= λ b. made (block_of looped k.0 b.0) b.1) >>= one) (kind_again kind w)
+    ∙ ap (λ (z : List ℕ). (body_at inner z >>= λ b. made (block_of looped kind b.0) b.1) >>= one) (append_assoc a (close ∷ []) tail)
+    ∙ ap (λ r. ((r >>= closed) >>= λ b. made (block_of looped kind b.0) b.1) >>= one) (g tail)
+
+short_item : (inner : List ℕ → Option Sequence) (kind : Option ValueKind) (first : Expression) (x a : List ℕ) (op close : ℕ) → Leads op lead.If → x ≡ op ∷ kind_byte kind ∷ (a ++ close ∷ []) →
+    ((tail : List ℕ) → inner (a ++ close ∷ tail) ≡ sequence first false tail) → (tail : List ℕ) → item_at inner (x ++ tail) ≡ item (One (If kind first Over)) tail
+short_item inner kind first x a op close k e g tail =
+    let w : List ℕ = (a ++ close ∷ []) ++ tail in
+    ap (λ (z : List ℕ). item_at inner (z ++ tail)) e
+    ∙ ap (λ o. o >>= λ l. led_at inner l (kind_byte kind ∷ w)) k
+    ∙ ap (λ r. (r >>= λ k. inner k.1 >>= second_at inner k.0) >>= one) (kind_again kind w)
+    ∙ ap (λ (z : List ℕ). (inner z >>= second_at inner kind) >>= one) (append_assoc a (close ∷ []) tail)
+    ∙ ap (λ r. (r >>= second_at inner kind) >>= one) (g tail)
+
+long_item : (inner : List ℕ → Option Sequence) (kind : Option ValueKind) (first second : Expression) (x a b : List ℕ) (op middle close : ℕ) → Leads op lead.If → x ≡ op ∷ kind_byte kind ∷ (a ++ middle ∷ (b ++ close ∷ [])) →
+    ((tail : List ℕ) → inner (a ++ middle ∷ tail) ≡ sequence first true tail) → ((tail : List ℕ) → inner (b ++ close ∷ tail) ≡ sequence second false tail) → (tail : List ℕ) → item_at inner (x ++ tail) ≡ item (One (If kind first second)) tail
+long_item inner kind first second x a b op middle close k e g h tail =
+    let v : List ℕ = b ++ close ∷ [] in
+    let w : List ℕ = (a ++ middle ∷ v) ++ tail in
+    ap (λ (z : List ℕ). item_at inner (z ++ tail)) e
+    ∙ ap (λ o. o >>= λ l. led_at inner l (kind_byte kind ∷ w)) k
+    ∙ ap (λ r. (r >>= λ k. inner k.1 >>= second_at inner k.0) >>= one) (kind_again kind w)
+    ∙ ap (λ (z : List ℕ). (inner z >>= second_at inner kind) >>= one) (append_assoc a (middle ∷ v) tail)
+    ∙ ap (λ r. (r >>= second_at inner kind) >>= one) (g (v ++ tail))
+    ∙ ap (λ (z : List ℕ). (body_at inner z >>= λ b. made (If kind first b.0) b.1) >>= one) (append_assoc b (close ∷ []) tail)
+    ∙ ap (λ r. ((r >>= closed) >>= λ b. made (If kind first b.0) b.1) >>= one) (h tail)
+
+opened_long : (op kind close : ℕ) (x a : List ℕ) → x ≡ op ∷ kind ∷ (a ++ close ∷ []) → 0 < length x
+opened_long op kind close x a e = omega (arith, ap length e)
+
+within : (n op kind close : ℕ) (whole x y a : List ℕ) → whole ≡ x ++ y → x ≡ op ∷ kind ∷ (a ++ close ∷ []) → length whole < suc n → length a < n
+within n op kind close whole x y a s e lt = omega (arith, ap length s, length-append x y, ap length e, length-append a (close ∷ []))
+
+both_long : (op kind middle close : ℕ) (x a b : List ℕ) → x ≡ op ∷ kind ∷ (a ++ middle ∷ (b ++ close ∷ [])) → 0 < length x
+both_long op kind middle close x a b e = omega (arith, ap length e)
+
+both_within : (n op kind middle close : ℕ) (whole x y a b : List ℕ) → whole ≡ x ++ y → x ≡ op ∷ kind ∷ (a ++ middle ∷ (b ++ close ∷ [])) → length whole < suc n → (length a < n) × (length b < n)
+both_within n op kind middle close whole x y a b s e lt = (
+  omega (arith, ap length s, length-append x y, ap length e, length-append a (middle ∷ (b ++ close ∷ [])), length-append b (close ∷ [])),
+  omega (arith, ap length s, length-append x y, ap length e, length-append a (middle ∷ (b ++ close ∷ [])), length-append b (close ∷ [])),
+)
+
+pub again : (c : Expression) (n d : ℕ) (a : List ℕ) (e : Bool) (b : ℕ) (rest : List ℕ) → Spells d c a → Leads b (term e) → length a < n → seq_at n d (a ++ b ∷ rest) ≡ sequence c e rest
+again c zero d a e b rest h k lt = absurd (omega arith)
+again Over (suc n) d a e b rest h k lt = ap (λ (z : List ℕ). seq_at (suc n) d (z ++ b ∷ rest)) h ∙ over n d e b rest k
+again (Plain i c) (suc n) d a e b rest h k lt =
+    item_again n d (Plain i) c a h.0 h.1 e b rest h.4 (single_item (inside (seq_at n) d) (Plain i) h.0 h.2) (again c n d h.1 e b rest h.3 k (less n a h.0 h.1 h.4 (single_long (Plain i) h.0 h.2) lt))
+again (Br m c) (suc n) d a e b rest h k lt =
+    item_again n d (Br m) c a h.0 h.1 e b rest h.4 (single_item (inside (seq_at n) d) (Br m) h.0 h.2) (again c n d h.1 e b rest h.3 k (less n a h.0 h.1 h.4 (single_long (Br m) h.0 h.2) lt))
+again (BrIf m c) (suc n) d a e b rest h k lt =
+    item_again n d (BrIf m) c a h.0 h.1 e b rest h.4 (single_item (inside (seq_at n) d) (BrIf m) h.0 h.2) (again c n d h.1 e b rest h.3 k (less n a h.0 h.1 h.4 (single_long (BrIf m) h.0 h.2) lt))
+again (BrTable ms m c) (suc n) d a e b rest h k lt =
+    item_again n d (BrTable ms m) c a h.0 h.1 e b rest h.4 (single_item (inside (seq_at n) d) (BrTable ms m) h.0 h.2) (again c n d h.1 e b rest h.3 k (less n a h.0 h.1 h.4 (single_long (BrTable ms m) h.0 h.2) lt))
+again (Return c) (suc n) d a e b rest h k lt =
+    item_again n d Return c a h.0 h.1 e b rest h.4 (single_item (inside (seq_at n) d) Return h.0 h.2) (again c n d h.1 e b rest h.3 k (less n a h.0 h.1 h.4 (single_long Return h.0 h.2) lt))
+again (Call m c) (suc n) d a e b rest h k lt =
+    item_again n d (Call m) c a h.0 h.1 e b rest h.4 (single_item (inside (seq_at n) d) (Call m) h.0 h.2) (again c n d h.1 e b rest h.3 k (less n a h.0 h.1 h.4 (single_long (Call m) h.0 h.2) lt))
+again (CallIndirect m c) (suc n) d a e b rest h k lt =
+    item_again n d (CallIndirect m) c a h.0 h.1 e b rest h.4 (single_item (inside (seq_at n) d) (CallIndirect m) h.0 h.2) (again c n d h.1 e b rest h.3 k (less n a h.0 h.1 h.4 (single_long (CallIndirect m) h.0 h.2) lt))
+again (MemoryGrow c) (suc n) d a e b rest h k lt =
+    item_again n d MemoryGrow c a h.0 h.1 e b rest h.4 (single_item (inside (seq_at n) d) MemoryGrow h.0 h.2) (again c n d h.1 e b rest h.3 k (less n a h.0 h.1 h.4 (single_long MemoryGrow h.0 h.2) lt))
+again (Block kind body c) (suc n) zero a e b rest h k lt = absurd h
+again (Block kind body c) (suc n) (suc d) a e b rest h k lt =
+    let i = h.2 in
+    item_again n (suc d) (Block kind body) c a h.0 h.1 e b rest h.4
+    (block_item (seq_at n d) false kind body h.0 i.2 i.0 i.1 i.3 i.6 (λ tail. again body n d i.2 false i.1 tail i.5 i.4 (within n i.0 (kind_byte kind) i.1 a h.0 h.1 i.2 h.4 i.6 lt)))
+    (again c n (suc d) h.1 e b rest h.3 k (less n a h.0 h.1 h.4 (opened_long i.0 (kind_byte kind) i.1 h.0 i.2 i.6) lt))
+again (Loop kind body c) (suc n) zero a e b rest h k lt = absurd h
+again (Loop kind body c) (suc n) (suc d) a e b rest h k lt =
+    let i = h.2 in
+    item_again n (suc d) (Loop kind body) c a h.0 h.1 e b rest h.4
+    (block_item (seq_at n d) true kind body h.0 i.2 i.0 i.1 i.3 i.6 (λ tail. again body n d i.2 false i.1 tail i.5 i.4 (within n i.0 (kind_byte kind) i.1 a h.0 h.1 i.2 h.4 i.6 lt)))
+    (again c n (suc d) h.1 e b rest h.3 k (less n a h.0 h.1 h.4 (opened_long i.0 (kind_byte kind) i.1 h.0 i.2 i.6) lt))
+again (If kind first second c) (suc n) zero a e b rest h k lt = absurd h
+again (If kind first second c) (suc n) (suc d) a e b rest h k lt = ⊎_elim
+    (λ p.
+    let i = p.1 in
+    item_again n (suc d) (If kind first Over) c a h.0 h.1 e b rest h.4
+    (short_item (seq_at n d) kind first h.0 i.2 i.0 i.1 i.3 i.6 (λ tail. again first n d i.2 false i.1 tail i.5 i.4 (within n i.0 (kind_byte kind) i.1 a h.0 h.1 i.2 h.4 i.6 lt)))
+    (again c n (suc d) h.1 e b rest h.3 k (less n a h.0 h.1 h.4 (opened_long i.0 (kind_byte kind) i.1 h.0 i.2 i.6) lt))
+    ∙ ap (λ t. sequence (If kind first t c) e rest) (sym p.0))
+    (λ i.
+    let w = both_within n i.0 (kind_byte kind) i.1 i.2 a h.0 h.1 i.3 i.4 h.4 i.10 lt in
+    item_again n (suc d) (If kind first second) c a h.0 h.1 e b rest h.4
+    (long_item (seq_at n d) kind first second h.0 i.3 i.4 i.0 i.1 i.2 i.5 i.10 (λ tail. again first n d i.3 true i.1 tail i.8 i.6 w.0) (λ tail. again second n d i.4 false i.2 tail i.9 i.7 w.1))
+    (again c n (suc d) h.1 e b rest h.3 k (less n a h.0 h.1 h.4 (both_long i.0 (kind_byte kind) i.1 i.2 h.0 i.3 i.4 i.10) lt)))
+    h.2
+
+-- ---- an expression
+
+pub expression_found : (n d : ℕ) (bytes : List ℕ) (x : Expression × List ℕ) → body_at (seq_at n d) bytes ≡ Some x → (front : List ℕ) × IsExpression d x.0 front × (bytes ≡ front ++ x.1)
+expression_found n d bytes x h =
+    let g = body_found d (seq_at n d) (seq_found n d) bytes x h in
+    (g.0 ++ g.1 ∷ [], (g.0, g.1, g.2, g.3, refl), g.4 ∙ sym (append_assoc g.0 (g.1 ∷ []) x.1))
+
+pub expression_again : (n d : ℕ) (e : Expression) (front rest bytes : List ℕ) → IsExpression d e front → bytes ≡ front ++ rest → length bytes < n → body_at (seq_at n d) bytes ≡ Some (e, rest)
+expression_again n d e front rest bytes h s lt =
+    let whole : bytes ≡ h.0 ++ h.1 ∷ rest = s ∙ ap (λ (z : List ℕ). z ++ rest) h.4 ∙ append_assoc h.0 (h.1 ∷ []) rest in
+    ap (body_at (seq_at n d)) whole
+    ∙ ap (λ r. r >>= closed) (again e n d h.0 false h.1 rest h.2 h.3 (omega (arith, ap length whole, length-append h.0 (h.1 ∷ rest))))

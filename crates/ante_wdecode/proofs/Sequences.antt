@@ -1,5 +1,5 @@
 -- Sequences of instructions: what was read so far, put before what is still to be read.
-use Rattle.std.proofs.Common.{◌≡◌, ◌⊎◌, ℕ, zero, suc, ◌+◌, ◌-◌, ◌*◌, ◌<◌, ◌≤◌, Bool, true, false, cond, nat_eq, List, [], ◌∷◌, ◌++◌, length, Option, None, Some, refl, sym, ap, subst, ◌∙◌, append_assoc, arith, inl, inr, ⊎_elim}
+use Rattle.std.proofs.Common.{◌≡◌, ℕ, zero, suc, ◌-◌, ◌<◌, ◌≤◌, Bool, true, false, List, [], ◌∷◌, ◌++◌, length, Option, None, Some, refl, sym, ap, subst, ◌∙◌, arith}
 use Rattle.ante_wtree.specs.declared.instructions.Instr.{Instr}
 use Rattle.ante_wtree.specs.declared.instructions.ValueKind.{ValueKind}
 use Rattle.ante_wtree.specs.Expressions.{Expression, put, expression_of, Over, If}
@@ -7,7 +7,7 @@ use Rattle.ante_wdecode.specs.declared.fault.Unread.{Unread}
 use Rattle.ante_wdecode.specs.declared.fault.Unread.TheVariants as unread
 use Rattle.ante_wdecode.specs.declared.opcodes.Lead.{Lead}
 use Rattle.ante_wdecode.specs.Opcodes.{among, opcodes}
-use Rattle.ante_wdecode.specs.Reading.{◌>>=◌, Sequence, Item, Ends, One, Fails, kind_at, closed, body_at, second_at, if_at, one, led_at, item_at, go_on, inside, seq_at}
+use Rattle.ante_wdecode.specs.Reading.{◌>>=◌, Sequence, Item, Ends, One, Fails, kind_at, body_at, second_at, if_at, one, led_at, item_at, go_on, inside, seq_at}
 use Rattle.ante_wdecode.proofs.Singles.{Make}
 
 abbrev pub before : List Instr → Expression → Expression
@@ -73,7 +73,7 @@ pub at_fault : (depth : ℕ) (bytes : List ℕ) (front : List Instr) (rest : Lis
 at_fault depth bytes front rest e h s m lt =
     let r = s.read m lt in
     along e (with_front front (seq_at (suc r.0) depth rest)) (seq_at m depth bytes) r.2
-      (fails_bind e (seq_at (suc r.0) depth rest) (λ x. sequence (before front x.0) x.1 x.2) (fails_bind e (item_at (inside (seq_at r.0) depth) rest) (go_on (seq_at r.0 depth)) (h r.0 r.1)))
+    (fails_bind e (seq_at (suc r.0) depth rest) (λ x. sequence (before front x.0) x.1 x.2) (fails_bind e (item_at (inside (seq_at r.0) depth) rest) (go_on (seq_at r.0 depth)) (h r.0 r.1)))
 
 -- ---- an instruction by its opcode
 
@@ -113,5 +113,5 @@ pub second_fails : (inner : List ℕ → Option Sequence) (bytes : List ℕ) (ki
     kind_at bytes ≡ Some (kind, rest) → inner rest ≡ sequence first by_else middle → by_else ≡ true → Fails e (body_at inner middle) → Fails e (if_at inner bytes)
 second_fails inner bytes kind rest middle first by_else e k s b t =
     along e (body_at inner middle >>= λ x. made (If kind first x.0) x.1) (if_at inner bytes)
-      (sym (ap (λ r. r >>= λ x. inner x.1 >>= second_at inner x.0) k ∙ ap (λ r. r >>= second_at inner kind) s ∙ ap (λ v. second_at inner kind (first, v, middle)) b))
-      (fails_bind e (body_at inner middle) (λ x. made (If kind first x.0) x.1) t)
+    (sym (ap (λ r. r >>= λ x. inner x.1 >>= second_at inner x.0) k ∙ ap (λ r. r >>= second_at inner kind) s ∙ ap (λ v. second_at inner kind (first, v, middle)) b))
+    (fails_bind e (body_at inner middle) (λ x. made (If kind first x.0) x.1) t)

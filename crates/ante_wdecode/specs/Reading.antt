@@ -1,5 +1,5 @@
 -- What is read at the front of some bytes, and the bytes after it.
-use Rattle.std.specs.Prelude.{◌≡◌, ℕ, zero, suc, Bool, true, false, List, [], ◌∷◌, length, Option, None, Some, Result, Ok, Err, nat_eq, nat_lt, if◌then◌else◌}
+use Rattle.std.specs.Prelude.{◌≡◌, ℕ, zero, suc, Bool, true, false, List, [], ◌∷◌, Option, None, Some, Result, Ok, Err, nat_eq, nat_lt, if◌then◌else◌}
 use Rattle.ante_wtree.specs.declared.instructions.ValueKind.{ValueKind}
 use Rattle.ante_wtree.specs.declared.instructions.ValueKind.TheVariants.{I32, I64}
 use Rattle.ante_wtree.specs.declared.instructions.MemArg.{MemArg}

@@ -29,11 +29,7 @@ fn result_kind(bytes: &[u8]) -> Result<(Option<ValueKind>, &[u8]), Unread>
 }
 
 #[cycle(sequence)]
-fn sequence(
-    alloc: Global,
-    depth: u32,
-    bytes: &[u8],
-) -> Result<(Vec<Instr>, bool, &[u8]), Unread>
+fn sequence(alloc: Global, depth: u32, bytes: &[u8]) -> Result<(Vec<Instr>, bool, &[u8]), Unread>
     ensures { (n : ℕ) → length bytes.now < n → Gives {Y = Sequence} (λ x. (expression_of x.0.items, x.1, x.2.now)) result (seq_at n depth bytes.now) }
 {
     let mut front = Vec::new(alloc);
@@ -102,12 +98,7 @@ fn block(
 }
 
 #[cycle(sequence)]
-fn choice(
-    alloc: Global,
-    depth: u32,
-    left: usize,
-    bytes: &[u8],
-) -> Result<(Instr, &[u8]), Unread>
+fn choice(alloc: Global, depth: u32, left: usize, bytes: &[u8]) -> Result<(Instr, &[u8]), Unread>
     ensures { (n : ℕ) → length bytes.now < n → Gives (λ x. (put x.0, x.1.now)) result (if_at (inside (seq_at n) depth) bytes.now) }
 {
     if depth == 0 {

@@ -1,5 +1,5 @@
-use Rattle.std.proofs.Common.{◌≡◌, true, false, sym, ap, ◌∙◌}
-use Rattle.ante_wtree.specs.Expressions.{Expression, Block, Loop, body_is, expression_of}
+use Rattle.std.proofs.Common.{sym, ap, ◌∙◌}
+use Rattle.ante_wtree.specs.Expressions.{Block, Loop, body_is, expression_of}
 use Rattle.ante_wdecode.specs.Reading.{block_of}
 use Rattle.ante_wdecode.proofs.nested.block_instr.Goals as goal
 

@@ -1,5 +1,5 @@
-use Rattle.std.proofs.Common.{◌≡◌, ap, ◌∙◌}
-use Rattle.ante_wtree.specs.Expressions.{Expression, If, row_code, body_is, expression_of}
+use Rattle.std.proofs.Common.{ap, ◌∙◌}
+use Rattle.ante_wtree.specs.Expressions.{If, row_code, body_is, expression_of}
 use Rattle.ante_wtree.specs.declared.instructions.Instr.TheBlock.{hidden-the_row-Instr-0}
 use Rattle.ante_wdecode.proofs.nested.if_instr.Goals as goal
 
