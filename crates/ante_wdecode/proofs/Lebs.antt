@@ -1,0 +1,142 @@
+-- What is read is spelled so, what is spelled so is read, and why nothing is.
+use Rattle.std.proofs.Common.{◌≡◌, ◌⊎◌, ℕ, ◌+◌, ◌-◌, ◌*◌, ◌%◌, ◌^◌, ◌<◌, ◌≤◌, Bool, true, false, cond, nat_lt, List, [], ◌∷◌, ◌++◌, Option, None, Some, Result, Ok, Err, IfOk, refl, sym, ap, ◌∙◌, arith, inl, inr, ⊎_elim}
+use Rattle.std.proofs.lemmas.Bool.{ltb-false, ltb-true, lt-ltb, le-ltb}
+use Rattle.std.proofs.lemmas.Nat.{pow-add}
+use Rattle.ante_wdecode.specs.declared.integers.Misread.{Misread}
+use Rattle.ante_wdecode.specs.declared.integers.Misread.TheVariants.{Short, Leb}
+use Rattle.ante_wdecode.specs.Integers.{last_value, more_value, IsLeb, IsS32, IsCut, Reads, ◌>>=◌, ends_with, leb_at}
+
+abbrev pub done : {A : Type 0} → A → Result A Misread
+done x = Ok x
+
+bind_ok : {A B : Type 0} (r : Result A Misread) (f : A → Result B Misread) (y : B) → (r >>= f) ≡ Ok y → (x : A) × (r ≡ Ok x) × (f x ≡ Ok y)
+bind_ok (Ok x) f y e = (x, refl, e)
+bind_ok (Err d) f y e = absurd cc
+
+chosen : {A : Type 0} (b : Bool) (x y z : A) → cond b x y ≡ z → ((b ≡ true) × (x ≡ z)) ⊎ ((b ≡ false) × (y ≡ z))
+chosen true x y z h = inl (refl, h)
+chosen false x y z h = inr (refl, h)
+
+ok_is : {A : Type 0} (x y : A) → done x ≡ done y → x ≡ y
+ok_is x y e = cc
+
+ended : (o : Option ℕ) (rest : List ℕ) (x : ℕ × List ℕ) → ends_with o rest ≡ Ok x → (o ≡ Some x.0) × (rest ≡ x.1)
+ended None rest x h = absurd cc
+ended (Some n) rest x h = let e = ok_is (n, rest) x h in (ap (λ (y : ℕ × List ℕ). Some y.0) e, ap (λ (y : ℕ × List ℕ). y.1) e)
+
+pub leb_again : (signed : Bool) (bits n : ℕ) (bytes tail : List ℕ) → IsLeb signed bits bytes n → leb_at signed bits (bytes ++ tail) ≡ Ok (n, tail)
+leb_again signed bits n [] tail h = absurd h
+leb_again signed bits n (b ∷ []) tail h = rw (lt-ltb b 128 h.0, h.1) refl
+leb_again signed bits n (b ∷ c ∷ bytes) tail h =
+    let no : nat_lt b 128 ≡ false = le-ltb b 128 h.0 in
+    rw (no, lt-ltb 7 bits h.1, leb_again signed (bits - 7) h.2 (c ∷ bytes) tail h.4) (ap (λ m. done (m, tail)) (sym h.3))
+
+pub leb_found : (signed : Bool) (bits : ℕ) (bytes : List ℕ) (x : ℕ × List ℕ) → leb_at signed bits bytes ≡ Ok x → (front : List ℕ) × IsLeb signed bits front x.0 × (bytes ≡ front ++ x.1)
+leb_found signed bits [] x h = absurd cc
+leb_found signed bits (b ∷ bytes) x h = ⊎_elim
+    (λ p. let e = ended (last_value signed bits b) bytes x p.1 in (b ∷ [], (ltb-true b 128 p.0, e.0), ap (λ (z : List ℕ). b ∷ z) e.1))
+    (λ p. ⊎_elim
+    (λ q. let r = bind_ok (leb_at signed (bits - 7) bytes) _ x q.1 in more (ltb-false b 128 p.0) (ltb-true 7 bits q.0) r.0 (ok_is _ x r.2) (leb_found signed (bits - 7) bytes r.0 r.1))
+    (λ q. absurd (never q.1))
+    (chosen (nat_lt 7 bits) _ (Err Leb) (Ok x) p.1))
+    (chosen (nat_lt b 128) (ends_with (last_value signed bits b) bytes) _ (Ok x) h)
+  where
+    never : {A : Type 0} {e : Misread} {y : A} → Err e ≡ Ok y → ⊥
+    never k = cc
+
+    more : 128 ≤ b → 7 < bits → (y : ℕ × List ℕ) → (more_value b y.0, y.1) ≡ x → (front : List ℕ) × IsLeb signed (bits - 7) front y.0 × (bytes ≡ front ++ y.1) → (front : List ℕ) × IsLeb signed bits front x.0 × (b ∷ bytes ≡ front ++ x.1)
+    more g l y e ([], i, s) = absurd i
+    more g l y e (c ∷ cs, i, s) = (b ∷ c ∷ cs, (g, l, y.0, sym (ap (λ (z : ℕ × List ℕ). z.0) e), i), ap (λ (z : List ℕ). b ∷ z) s ∙ ap (λ (z : ℕ × List ℕ). b ∷ (c ∷ cs ++ z.1)) e)
+
+-- ---- an unsigned integer is below its width
+
+wider : (bits : ℕ) → 7 < bits → 2 ^ bits ≡ 128 * 2 ^ (bits - 7)
+wider bits lt = let e : bits ≡ 7 + (bits - 7) = omega arith in ap (λ k. 2 ^ k) e ∙ pow-add 2 7 (bits - 7)
+
+last_below : (bits b n : ℕ) → last_value false bits b ≡ Some n → n < 2 ^ bits
+last_below bits b n h = ⊎_elim
+    (λ p. let e : b ≡ n = same p.1 in omega (arith, ltb-true b (2 ^ bits) p.0))
+    (λ p. absurd (never p.1))
+    (chosen (nat_lt b (2 ^ bits)) (Some b) None (Some n) h)
+  where
+    same : {x y : ℕ} → Some x ≡ Some y → x ≡ y
+    same k = cc
+
+    never : {y : ℕ} → None ≡ Some y → ⊥
+    never k = cc
+
+pub unsigned_below : (bits n : ℕ) (bytes : List ℕ) → IsLeb false bits bytes n → n < 2 ^ bits
+unsigned_below bits n [] h = absurd h
+unsigned_below bits n (b ∷ []) h = last_below bits b n h.1
+unsigned_below bits n (b ∷ c ∷ bytes) h =
+    let e = h.3 in
+    let l = unsigned_below (bits - 7) h.2 (c ∷ bytes) h.4 in
+    omega (arith, e, l, wider bits h.1)
+
+-- ---- where the bytes end within an integer
+
+never_short : (o : Option ℕ) (rest : List ℕ) → ends_with o rest ≡ Err Short → ⊥
+never_short None rest h = cc
+never_short (Some n) rest h = cc
+
+bind_err : {A B : Type 0} (r : Result A Misread) (g : A → B) (e : Misread) → (r >>= λ x. done (g x)) ≡ Err e → r ≡ Err e
+bind_err (Ok x) g e h = absurd cc
+bind_err (Err d) g e h = let k : d ≡ e = cc in ap (λ (f : Misread). Err f) k
+
+cut_of : (signed : Bool) (bits : ℕ) (bytes : List ℕ) → 0 < bits → leb_at signed bits bytes ≡ Err Short → IsCut bits bytes
+cut_of signed bits [] some h = (some, tt)
+cut_of signed bits (b ∷ bytes) some h = ⊎_elim
+    (λ p. absurd (never_short (last_value signed bits b) bytes p.1))
+    (λ p. ⊎_elim
+    (λ q.
+    let lt = ltb-true 7 bits q.0 in
+    let r = cut_of signed (bits - 7) bytes (omega arith) (bind_err (leb_at signed (bits - 7) bytes) (λ high. (more_value b high.0, high.1)) Short q.1) in
+    (omega (arith, r.0, lt), (ltb-false b 128 p.0, r.1)))
+    (λ q. absurd (other q.1))
+    (chosen (nat_lt 7 bits) _ (Err Leb) (Err Short) p.1))
+    (chosen (nat_lt b 128) (ends_with (last_value signed bits b) bytes) _ (Err Short) h)
+  where
+    other : {A : Type 0} → let l : Result A Misread = Err Leb in l ≡ Err Short → ⊥
+    other k = cc
+
+is_cut : (signed : Bool) (bits : ℕ) (bytes : List ℕ) → IsCut bits bytes → leb_at signed bits bytes ≡ Err Short
+is_cut signed bits [] h = refl
+is_cut signed bits (b ∷ bytes) h =
+    let lt : 7 < bits = omega (arith, h.0) in
+    let c : IsCut (bits - 7) bytes = (omega (arith, h.0), h.1.1) in
+    rw (le-ltb b 128 h.1.0, lt-ltb 7 bits lt, is_cut signed (bits - 7) bytes c) refl
+
+-- ---- what the calls answer
+
+if_found : (signed : Bool) (bits : ℕ) (bytes : List ℕ) (r : Result (ℕ × List ℕ) Misread) → leb_at signed bits bytes ≡ r → IfOk r (λ x. (front : List ℕ) × IsLeb signed bits front x.0 × (bytes ≡ front ++ x.1))
+if_found signed bits bytes (Ok x) h = leb_found signed bits bytes x h
+if_found signed bits bytes (Err e) h = tt
+
+pub reads_leb : (signed : Bool) (bits : ℕ) (bytes : List ℕ) (r : Result (ℕ × List ℕ) Misread) → 0 < bits → r ≡ leb_at signed bits bytes → Reads (IsLeb signed bits) bits bytes r
+reads_leb signed bits bytes r some h = record {
+  found = if_found signed bits bytes r (sym h);
+  only = λ n front rest i e. h ∙ ap (leb_at signed bits) e ∙ leb_again signed bits n front rest i;
+  short = (λ k. cut_of signed bits bytes some (sym h ∙ k), λ cut. h ∙ is_cut signed bits bytes cut);
+}
+
+abbrev pub low : Result (ℕ × List ℕ) Misread → Result (ℕ × List ℕ) Misread
+low r = r >>= λ x. Ok (x.0 % 2 ^ 32, x.1)
+
+low_found : (bytes : List ℕ) (r : Result (ℕ × List ℕ) Misread) → IfOk r (λ x. (front : List ℕ) × IsLeb true 32 front x.0 × (bytes ≡ front ++ x.1)) → IfOk (low r) (λ x. (front : List ℕ) × IsS32 front x.0 × (bytes ≡ front ++ x.1))
+low_found bytes (Ok x) h = (h.0, (x.0, h.1, refl), h.2)
+low_found bytes (Err e) h = tt
+
+low_short : (r : Result (ℕ × List ℕ) Misread) → low r ≡ Err Short → r ≡ Err Short
+low_short (Ok x) h = absurd cc
+low_short (Err e) h = h
+
+pub reads_low : (bytes : List ℕ) (r : Result (ℕ × List ℕ) Misread) → Reads (IsLeb true 32) 32 bytes r → Reads IsS32 32 bytes (low r)
+reads_low bytes r h = record {
+  found = low_found bytes r h.found;
+  only = λ n front rest i e. ap low (h.only i.0 front rest i.1 e) ∙ ap (λ m. done (m, rest)) (sym i.2);
+  short = (λ k. h.short.0 (low_short r k), λ cut. ap low (h.short.1 cut));
+}
+
+pub low_is : (r : Result (ℕ × List ℕ) Misread) (x : ℕ × List ℕ) → low r ≡ Ok x → (y : ℕ × List ℕ) × (r ≡ Ok y) × (x ≡ (y.0 % 2 ^ 32, y.1))
+low_is (Ok y) x h = (y, refl, sym (ok_is (y.0 % 2 ^ 32, y.1) x h))
+low_is (Err e) x h = absurd cc

@@ -1,0 +1,5 @@
+mod Grammar
+mod Labels
+mod Lebs
+mod Sequences
+mod Singles

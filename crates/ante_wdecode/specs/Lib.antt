@@ -1,0 +1,4 @@
+pub mod Instructions
+pub mod Integers
+pub mod Opcodes
+pub mod Reading
