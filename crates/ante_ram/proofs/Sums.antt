@@ -1,0 +1,146 @@
+-- The sum of all usage after a change of one account's share, and the rule that it keeps.
+use Rattle.std.proofs.Common.{◌≡◌, ℕ, ◌+◌, ◌-◌, ◌≤◌, ◌^◌, ℤ, true, false, cond, not, T, List, [], ◌∷◌, length, slice_index_or, Result, Ok, Err, OnOk, OnErr, Some, None, refl, sym, ap, subst, ◌∙◌, arith, Ordering, Less, Equal, Greater, is_lt, is_eq}
+use Rattle.std.specs.Ordering.{eq_by_cmp, nat_cmp, ordering_reverse}
+use Rattle.std.specs.Cmp.{IsTotalOrder}
+use Rattle.std.specs.List.{AllByRecursion}
+use Rattle.std.specs.FinMap.Entries.{by_order, find, is_sorted, below_all}
+use Rattle.std.proofs.lemmas.Bool.Decides.{nat_tests}
+use Rattle.std.proofs.lemmas.Cmp.{tied_itself, nat_cmp_total}
+use Rattle.ante_undo.specs.Entries.{with_entry, without_key, changed}
+use Rattle.ante_undo.proofs.Entries.{first, second, less, find_changed, sorted_changed}
+use Rattle.std.proofs.lemmas.Slice.Zip.{firsts-zip}
+use Rattle.ante_undo.specs.Stack.{Stack, with_top, under_top}
+use Rattle.ante_sessions.specs.Zipped.{zip_stacks, Alike}
+use Rattle.ante_sessions.specs.Seen.{map_stack, Throughout}
+use Rattle.ante_sessions.proofs.Seen.{kept_top}
+use Rattle.ante_pack.specs.declared.names.Name.{Name}
+use Rattle.ante_ram.specs.declared.parts.Share.{Share}
+use Rattle.ante_ram.specs.declared.parts.Rest.{Rest}
+use Rattle.ante_ram.specs.Usage.{used_of, usage_sum, is_free, entry_of, with_share}
+use Rattle.ante_ram.specs.Total.{rest_of, IsSummed}
+
+-- what one account uses is a part of the sum
+pub used_within : (cmp : Name → Name → Ordering) (k : Name) (es : List (Name × Share)) → used_of (find cmp k es) ≤ usage_sum es
+used_within cmp k [] = omega arith
+used_within cmp k (e ∷ es) =
+    let rest = used_within cmp k es in
+    elim (eq_by_cmp cmp k e.0) as (λ b. used_of (cond b (Some e.1) (find cmp k es)) ≤ e.1.used + usage_sum es) [
+      | true ↦ omega arith
+      | false ↦ omega arith
+    ]
+
+-- the entry of an account is counted, where there is one
+module _ (cmp : Name → Name → Ordering) where
+  all_with : (k : Name) (v : Share) (es : List (Name × Share)) → AllByRecursion (λ e. T (not (is_free e.1.used e.1.quota))) es → T (not (is_free v.used v.quota)) → AllByRecursion (λ e. T (not (is_free e.1.used e.1.quota))) (with_entry cmp k v es)
+  all_with k v [] all q = (q, tt)
+  all_with k v (e ∷ es) all q =
+      elim (cmp k e.0) as (λ r. AllByRecursion (λ e. T (not (is_free e.1.used e.1.quota))) (by_order r ((k, v) ∷ e ∷ es) ((k, v) ∷ es) (e ∷ with_entry cmp k v es))) [
+        | Less ↦ (q, all)
+        | Equal ↦ (q, all.1)
+        | Greater ↦ (all.0, all_with k v es all.1 q)
+      ]
+
+  all_without : (k : Name) (es : List (Name × Share)) → AllByRecursion (λ e. T (not (is_free e.1.used e.1.quota))) es → AllByRecursion (λ e. T (not (is_free e.1.used e.1.quota))) (without_key cmp k es)
+  all_without k [] all = tt
+  all_without k (e ∷ es) all =
+      elim (eq_by_cmp cmp k e.0) as (λ b. AllByRecursion (λ e. T (not (is_free e.1.used e.1.quota))) (cond (not b) (e ∷ without_key cmp k es) (without_key cmp k es))) [
+        | true ↦ all_without k es all.1
+        | false ↦ (all.0, all_without k es all.1)
+      ]
+
+  counted_share : (k : Name) (used : ℕ) (quota : ℤ) (es : List (Name × Share)) → AllByRecursion (λ e. T (not (is_free e.1.used e.1.quota))) es → AllByRecursion (λ e. T (not (is_free e.1.used e.1.quota))) (with_share cmp k used quota es)
+  counted_share k used quota es all =
+      elim (is_free used quota) as (λ b. is_free used quota ≡ b → AllByRecursion (λ e. T (not (is_free e.1.used e.1.quota))) (changed cmp es k (cond b None (Some (record { used = used; quota = quota }))))) [
+        | true ↦ λ p. all_without k es all
+        | false ↦ λ p. all_with k (record { used = used; quota = quota }) es all (subst (λ b. T (not b)) (sym p) tt)
+      ] refl
+
+  module _ (o : IsTotalOrder cmp) where
+    -- no key after one that is not below k ties with k
+    absent : (k x : Name) (es : List (Name × Share)) (r : Ordering) → cmp k x ≡ r → T (not (is_lt (cmp x k))) → T (below_all cmp x es) → find cmp k es ≡ None
+    absent k x [] r p up h = refl
+    absent k x (e ∷ es) Less p up h =
+        ap (λ r. cond (is_eq r) (Some e.1) (find cmp k es)) (o.trans k x e.0 p (less _ (first _ _ h))) ∙ absent k x es Less p up (second _ _ h)
+    absent k x (e ∷ es) Equal p up h =
+        ap (λ r. cond (is_eq r) (Some e.1) (find cmp k es)) (o.congr k x e.0 p ∙ less _ (first _ _ h)) ∙ absent k x es Equal p up (second _ _ h)
+    absent k x (e ∷ es) Greater p up h = absurd (subst (λ r. T (not (is_lt r))) (o.antisymm x k ∙ ap ordering_reverse p) up)
+
+    tied_not_above : (k x : Name) → cmp k x ≡ Equal → T (not (is_lt (cmp x k)))
+    tied_not_above k x p = subst (λ r. T (not (is_lt r))) (sym (o.antisymm x k ∙ ap ordering_reverse p)) tt
+
+    less_not_above : (k x : Name) → cmp k x ≡ Less → T (not (is_lt (cmp x k)))
+    less_not_above k x p = subst (λ r. T (not (is_lt r))) (sym (o.antisymm x k ∙ ap ordering_reverse p)) tt
+
+    sum_with : (k : Name) (v : Share) (es : List (Name × Share)) → T (is_sorted cmp es) → usage_sum (with_entry cmp k v es) + used_of (find cmp k es) ≡ usage_sum es + v.used
+    sum_with k v [] h = omega arith
+    sum_with k v (e ∷ es) h =
+        elim (cmp k e.0) as (λ r. cmp k e.0 ≡ r → usage_sum (by_order r ((k, v) ∷ e ∷ es) ((k, v) ∷ es) (e ∷ with_entry cmp k v es)) + used_of (cond (is_eq r) (Some e.1) (find cmp k es)) ≡ e.1.used + usage_sum es + v.used) [
+          | Less ↦ λ p. let none = absent k e.0 es Less p (less_not_above k e.0 p) (first _ _ h) in omega (arith, ap used_of none)
+          | Equal ↦ λ p. omega arith
+          | Greater ↦ λ p. let rest = sum_with k v es (second _ _ h) in omega arith
+        ] refl
+
+    sum_without : (k : Name) (es : List (Name × Share)) → T (is_sorted cmp es) → usage_sum (without_key cmp k es) + used_of (find cmp k es) ≡ usage_sum es
+    sum_without k [] h = refl
+    sum_without k (e ∷ es) h =
+        let rest = sum_without k es (second _ _ h) in
+        elim (cmp k e.0) as (λ r. cmp k e.0 ≡ r → usage_sum (cond (not (is_eq r)) (e ∷ without_key cmp k es) (without_key cmp k es)) + used_of (cond (is_eq r) (Some e.1) (find cmp k es)) ≡ e.1.used + usage_sum es) [
+          | Less ↦ λ p. omega arith
+          | Equal ↦ λ p. let none = absent k e.0 es Equal p (tied_not_above k e.0 p) (first _ _ h) in omega (arith, ap used_of none)
+          | Greater ↦ λ p. omega arith
+        ] refl
+
+    free_uses_nothing : (used : ℕ) (quota : ℤ) → is_free used quota ≡ true → used ≡ 0
+    free_uses_nothing used quota h = grind (arith, nat_tests)
+
+    -- the account's old usage goes out of the sum, and its new usage comes in
+    sum_share : (k : Name) (used : ℕ) (quota : ℤ) (es : List (Name × Share)) → T (is_sorted cmp es) → usage_sum (with_share cmp k used quota es) + used_of (find cmp k es) ≡ usage_sum es + used
+    sum_share k used quota es h =
+        elim (is_free used quota) as (λ b. is_free used quota ≡ b → usage_sum (changed cmp es k (cond b None (Some (record { used = used; quota = quota })))) + used_of (find cmp k es) ≡ usage_sum es + used) [
+          | true ↦ λ p. omega (arith, sum_without k es h, free_uses_nothing used quota p)
+          | false ↦ λ p. sum_with k (record { used = used; quota = quota }) es h
+        ] refl
+
+    used_entry : (used : ℕ) (quota : ℤ) → used_of (entry_of used quota) ≡ used
+    used_entry used quota = elim (is_free used quota) as (λ b. is_free used quota ≡ b → used_of (cond b None (Some (record { used = used; quota = quota }))) ≡ used) [
+      | true ↦ λ p. sym (free_uses_nothing used quota p)
+      | false ↦ λ p. refl
+    ] refl
+
+    used_share : (k : Name) (used : ℕ) (quota : ℤ) (es : List (Name × Share)) → used_of (find cmp k (with_share cmp k used quota es)) ≡ used
+    used_share k used quota es = ap used_of (find_changed cmp o es k (entry_of used quota) k ∙ ap (λ r. cond (is_eq r) (entry_of used quota) (find cmp k es)) (tied_itself o k)) ∙ used_entry used quota
+
+    rest_found : (rest : Rest) (rests : List (ℕ × Rest)) → rest_of (find nat_cmp 0 (changed nat_cmp rests 0 (Some rest))) ≡ rest
+    rest_found rest rests = ap rest_of (find_changed nat_cmp nat_cmp_total rests 0 (Some rest) 0)
+
+    -- the rest beside an account is written down
+    pub rested : (rest : Rest) (m : List (Name × Share) × List (ℕ × Rest)) → rest.used + used_of (find cmp rest.account m.0) ≡ usage_sum m.0 → IsSummed cmp m → IsSummed cmp (m.0, changed nat_cmp m.1 0 (Some rest))
+    rested rest m e is = record {
+      sorted = is.sorted;
+      total = subst (λ r. r.used + used_of (find cmp r.account m.0) ≡ usage_sum m.0) (sym (rest_found rest m.1)) e;
+      small = is.small;
+      counted = is.counted;
+    }
+
+    -- and then the account's share
+    pub shared : (rest : Rest) (used : ℕ) (quota : ℤ) (m : List (Name × Share) × List (ℕ × Rest)) → rest.used + used_of (find cmp rest.account m.0) ≡ usage_sum m.0 → rest.used + used ≤ 2 ^ 62 → IsSummed cmp m → IsSummed cmp (with_share cmp rest.account used quota m.0, changed nat_cmp m.1 0 (Some rest))
+    shared rest used quota m e small is = record {
+      sorted = sorted_changed cmp o m.0 rest.account (entry_of used quota) is.sorted;
+      total = subst (λ r. r.used + used_of (find cmp r.account (with_share cmp rest.account used quota m.0)) ≡ usage_sum (with_share cmp rest.account used quota m.0)) (sym (rest_found rest m.1))
+          (omega (arith, used_share rest.account used quota m.0, sum_share rest.account used quota m.0 is.sorted));
+      small = omega (arith, sum_share rest.account used quota m.0 is.sorted);
+      counted = counted_share rest.account used quota m.0 is.counted;
+    }
+
+    -- a writing call first writes the rest down and then the share, or is refused before one of them
+    pub written : {A E : Type 0} (rest : Rest) (used : ℕ) (quota : ℤ) (old s s2 : Stack (List (Name × Share) × List (ℕ × Rest))) (r : Result A E) → s ≡ with_top (old.top.0, changed nat_cmp old.top.1 0 (Some rest)) old → OnOk r (s2 ≡ with_top (with_share cmp rest.account used quota s.top.0, s.top.1) s) → OnErr r (s2 ≡ s) → rest.used + used_of (find cmp rest.account old.top.0) ≡ usage_sum old.top.0 → rest.used + used ≤ 2 ^ 62 → Throughout (IsSummed cmp) old → Throughout (IsSummed cmp) s2
+    written rest used quota old s s2 (Ok a) e ok err others small is =
+        kept_top (IsSummed cmp) (with_share cmp rest.account used quota s.top.0, s.top.1) s s2 ok
+        (subst (λ t. IsSummed cmp (with_share cmp rest.account used quota t.0, t.1)) (sym (ap (λ s. s.top) e)) (shared rest used quota old.top others small is.top))
+        (kept_top (IsSummed cmp) (old.top.0, changed nat_cmp old.top.1 0 (Some rest)) old s e (rested rest old.top others is.top) is)
+    written rest used quota old s s2 (Err a) e ok err others small is =
+        subst (Throughout (IsSummed cmp)) (sym err) (kept_top (IsSummed cmp) (old.top.0, changed nat_cmp old.top.1 0 (Some rest)) old s e (rested rest old.top others is.top) is)
+
+-- what the newest session began with, seen without the rests
+pub under_seen : {X Y : Type 0} (a : Stack X) (b : Stack Y) → Alike a b → under_top (map_stack (λ m. m.0) (zip_stacks a b)) ≡ under_top a
+under_seen a b h = ap (λ maps. slice_index_or maps (length maps - 1) a.top) (firsts-zip a.under b.under (sym h.under))

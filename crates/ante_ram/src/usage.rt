@@ -1,0 +1,296 @@
+ghost use Rattle.std.specs.Prelude.{◌≡◌, ℕ, ℤ, pos, ◌+◌, ◌-◌, ◌^◌, ◌<◌, ◌≤◌, [], length, Some, None, Err, IfSome, OnSome, IsTrue, OnOk, OnErr, IfOk, IfErr, not, ◌↔◌, negsuc};
+ghost use Rattle.std.specs.Option.{option_map};
+ghost use Rattle.std.specs.FinMap.Entries.{find, is_sorted};
+ghost use Rattle.ante_undo.specs.Stack.{opened, with_top, begun, committed, under_top, IsSquashed, without_shelf, IsShelved, IsUnshelved, IsAbove, IsSound};
+ghost use Rattle.ante_sessions.specs.Walk.{first_entry, past};
+ghost use Rattle.ante_ram.specs.Usage.{used_of, quota_of, usage_sum, with_share, moved, fall, is_free, is_over, first_over, shown_share, exceeds};
+ghost use Rattle.ante_ram.specs.declared.usage.RamFault.TheVariants.{OutOfMemory, RamTotal};
+
+use crate::laws::name_order;
+use crate::parts::{Parts, Rest, Share, UsageShape, put_rest, put_share};
+use ante_pack::Name;
+use ante_sessions::{Both, Entries, Kept, Sessions, next_entry};
+use ante_undo::Layered;
+use std::alloc::{AllocError, Global};
+use std::marker::{Model, PhantomData};
+
+/// What all accounts together may use.
+const MOST: u64 = 4_611_686_018_427_387_904;
+
+/// Why usage can't be changed.
+#[derive(Clone, Copy, Debug, PartialEq, Eq)]
+pub enum RamFault {
+    OutOfMemory,
+    /// All usage together would pass 2^62.
+    RamTotal,
+}
+
+/// The memory that accounts use and may use, under nested sessions.
+///
+/// Contracts see a stack of maps from accounts to shares. An account that uses nothing and has no quota has no entry.
+#[derive(Drop)]
+pub struct Usage {
+    kept: Kept<Parts, UsageShape>,
+}
+
+impl Model for Usage {
+    ghost use Rattle.std.specs.Prelude.{List};
+    ghost use Rattle.ante_undo.specs.Stack.{Stack};
+    ghost use Rattle.ante_pack.specs.declared.names.Name.{Name};
+    ghost use Rattle.ante_ram.specs.declared.parts.Share.{Share};
+
+    ghost Value = { Stack (List (Name × Share)) };
+
+    ghost view = { λ s. s.kept };
+}
+
+impl Usage {
+    /// No usage and no quota, at the revision.
+    pub fn new(alloc: Global, revision: u64) -> Usage
+        requires small { revision < 2 ^ 63 }
+        ensures { result ≡ opened [] revision }
+    {
+        Usage {
+            kept: Kept {
+                inner: Both {
+                    first: Layered::new(alloc, revision),
+                    second: Layered::new(alloc, revision),
+                },
+                shape: PhantomData,
+            },
+        }
+    }
+
+    /// The bytes that the account uses.
+    pub fn used(&self, account: Name) -> u64
+        ensures { result ≡ used_of (find ⟦<Name as Ord>⟧.cmp account self.now.top) }
+    {
+        self.share(account).used
+    }
+
+    /// The bytes that the account may use, or -1.
+    pub fn quota(&self, account: Name) -> i64
+        ensures { result ≡ quota_of (find ⟦<Name as Ord>⟧.cmp account self.now.top) }
+    {
+        self.share(account).quota
+    }
+
+    /// Changes what the account uses. A negative change needs that much usage.
+    pub fn add(&mut self, alloc: Global, account: Name, change: i64) -> Result<(), RamFault>
+        requires above { IsAbove 1 self.old }
+        requires falls { fall change ≤ used_of (find ⟦<Name as Ord>⟧.cmp account self.old.top) }
+        ensures ok { OnOk result (self.new ≡ with_top (with_share ⟦<Name as Ord>⟧.cmp account (moved change (used_of (find ⟦<Name as Ord>⟧.cmp account self.old.top))) (quota_of (find ⟦<Name as Ord>⟧.cmp account self.old.top)) self.old.top) self.old) }
+        ensures total { (result ≡ Err RamTotal) ↔ (2 ^ 62 < moved change (usage_sum self.old.top)) }
+        ensures err { OnErr result (self.new ≡ self.old) }
+    {
+        let share = self.share(account);
+        let others = self.others(account);
+        let used = changed_usage(share.used, change);
+        if others + used > MOST {
+            return Err(RamFault::RamTotal);
+        }
+        let share = Share {
+            used,
+            quota: share.quota,
+        };
+        match self.write(alloc, account, others, share) {
+            Ok(()) => Ok(()),
+            Err(_) => Err(RamFault::OutOfMemory),
+        }
+    }
+
+    /// Sets what the account may use; -1 is no quota.
+    pub fn set_quota(&mut self, alloc: Global, account: Name, quota: i64) -> Result<(), RamFault>
+        requires above { IsAbove 1 self.old }
+        ensures ok { OnOk result (self.new ≡ with_top (with_share ⟦<Name as Ord>⟧.cmp account (used_of (find ⟦<Name as Ord>⟧.cmp account self.old.top)) quota self.old.top) self.old) }
+        ensures fault { IfErr result (λ fault. fault ≡ OutOfMemory) }
+        ensures err { OnErr result (self.new ≡ self.old) }
+    {
+        let share = Share {
+            used: self.used(account),
+            quota,
+        };
+        let others = self.others(account);
+        match self.write(alloc, account, others, share) {
+            Ok(()) => Ok(()),
+            Err(_) => Err(RamFault::OutOfMemory),
+        }
+    }
+
+    /// The least account that uses more than when the newest session began, and more than its quota, with its usage
+    /// and its quota. The quota -1 is none.
+    pub fn first_over(&self) -> Option<(Name, u64, i64)>
+        requires session { 0 < length self.now.under }
+        ensures { result ≡ first_over ⟦<Name as Ord>⟧.cmp (under_top self.now) self.now.top }
+    {
+        name_order();
+        let mut next = self.next_usage(None);
+        while let Some(account) = next {
+            if self.is_over(account) {
+                return Some(account);
+            }
+            next = self.next_usage(Some(account.0));
+        }
+        None
+    }
+
+    fn is_over(&self, account: (Name, u64, i64)) -> bool
+        requires session { 0 < length self.now.under }
+        ensures { result ≡ is_over ⟦<Name as Ord>⟧.cmp (under_top self.now) account }
+    {
+        account.1 > self.used_before(account.0) && exceeds(account.1, account.2)
+    }
+
+    // What the account used when the newest session began.
+    fn used_before(&self, account: Name) -> u64
+        requires session { 0 < length self.now.under }
+        ensures { result ≡ used_of (find ⟦<Name as Ord>⟧.cmp account (under_top self.now)) }
+    {
+        match self.kept.inner.first.under(&account) {
+            Some(share) => share.used,
+            None => 0,
+        }
+    }
+
+    /// The first account after the given one, or the first of all, with its usage and its quota. An account that uses
+    /// nothing and has no quota is passed over.
+    pub fn next_usage(&self, after: Option<Name>) -> Option<(Name, u64, i64)>
+        ensures next { result ≡ option_map shown_share (first_entry (past ⟦<Name as Ord>⟧.cmp after self.now.top)) }
+        ensures counted { IfSome result (λ e. IsTrue (not (is_free e.1 e.2))) }
+        ensures ordered { IsTrue (is_sorted ⟦<Name as Ord>⟧.cmp self.now.top) }
+    {
+        match next_entry(&self.kept.inner.first, Name(0), after) {
+            Some((account, share)) => Some(shown(account, share)),
+            None => None,
+        }
+    }
+
+    // What all other accounts use.
+    fn others(&self, account: Name) -> u64
+        ensures others { result + used_of (find ⟦<Name as Ord>⟧.cmp account self.now.top) ≡ usage_sum self.now.top }
+        ensures small { usage_sum self.now.top ≤ 2 ^ 62 }
+    {
+        let rest = self.rest();
+        rest.used + self.used(rest.account) - self.used(account)
+    }
+
+    // What is written down of the rest.
+    fn rest(&self) -> Rest
+        ensures total { result.used + used_of (find ⟦<Name as Ord>⟧.cmp result.account self.now.top) ≡ usage_sum self.now.top }
+        ensures small { usage_sum self.now.top ≤ 2 ^ 62 }
+    {
+        match self.kept.inner.second.get(&0) {
+            Some(rest) => *rest,
+            None => Rest {
+                account: Name(0),
+                used: 0,
+            },
+        }
+    }
+
+    // Writes an account's share, where the others use so much.
+    fn write(
+        &mut self,
+        alloc: Global,
+        account: Name,
+        others: u64,
+        share: Share,
+    ) -> Result<(), AllocError>
+        requires above { IsAbove 1 self.old }
+        requires others { others + used_of (find ⟦<Name as Ord>⟧.cmp account self.old.top) ≡ usage_sum self.old.top }
+        requires small { others + share.used ≤ 2 ^ 62 }
+        ensures ok { OnOk result (self.new ≡ with_top (with_share ⟦<Name as Ord>⟧.cmp account share.used share.quota self.old.top) self.old) }
+        ensures err { OnErr result (self.new ≡ self.old) }
+    {
+        name_order();
+        let rest = Rest {
+            account,
+            used: others,
+        };
+        let parts = &mut self.kept.inner;
+        put_rest(parts, alloc, rest)?;
+        put_share(parts, alloc, account, share)
+    }
+
+    fn share(&self, account: Name) -> Share
+        ensures used { result.used ≡ used_of (find ⟦<Name as Ord>⟧.cmp account self.now.top) }
+        ensures quota { result.quota ≡ quota_of (find ⟦<Name as Ord>⟧.cmp account self.now.top) }
+    {
+        match self.kept.inner.first.get(&account) {
+            Some(share) => *share,
+            None => Share { used: 0, quota: -1 },
+        }
+    }
+}
+
+// Usage after a change of it.
+fn changed_usage(used: u64, change: i64) -> u64
+    requires falls { fall change ≤ used }
+    requires small { used ≤ 2 ^ 62 }
+    ensures { result ≡ moved change used }
+{
+    if change < 0 {
+        used - change.unsigned_abs()
+    } else {
+        used + change.unsigned_abs()
+    }
+}
+
+fn shown(account: &Name, share: &Share) -> (Name, u64, i64)
+    ensures { result ≡ shown_share (account.now, share.now) }
+{
+    (*account, share.used, share.quota)
+}
+
+// Whether more than the quota is used.
+fn exceeds(used: u64, quota: i64) -> bool
+    ensures { result ≡ exceeds used quota }
+{
+    if quota < 0 {
+        quota != -1
+    } else {
+        used > quota.unsigned_abs()
+    }
+}
+
+impl Sessions for Usage {
+    type Map = Entries<Name, Share>;
+
+    ghost stack = { λ s. s };
+
+    fn begin(&mut self, alloc: Global) -> Result<u64, AllocError> {
+        self.kept.begin(alloc)
+    }
+
+    fn undo(&mut self) {
+        self.kept.undo();
+    }
+
+    fn squash(&mut self) {
+        self.kept.squash();
+    }
+
+    fn commit(&mut self, revision: u64) {
+        self.kept.commit(revision);
+    }
+
+    fn shelve(&mut self, revision: u64) {
+        self.kept.shelve(revision);
+    }
+
+    fn unshelve(&mut self) {
+        self.kept.unshelve();
+    }
+
+    fn drop_shelf(&mut self) {
+        self.kept.drop_shelf();
+    }
+
+    fn revision(&self) -> u64 {
+        self.kept.revision()
+    }
+
+    fn sessions(&self) -> u64 {
+        self.kept.sessions()
+    }
+}

@@ -1,0 +1,10 @@
+use Rattle.std.proofs.Common.{sym, ap, ◌∙◌}
+use Rattle.ante_sessions.specs.Walk.{first_entry, past}
+use Rattle.ante_sessions.proofs.Past.{after_first}
+use Rattle.ante_sessions.proofs.walk.next_entry.Goals as goal
+
+pub returns-in-Some-clause-next : goal.returns-in-Some-clause-next
+returns-in-Some-clause-next g c =
+    c.after.ensures.nearest
+    ∙ after_first g.K.Ord.cmp c.in-Some.key c.args.map.now.top
+    ∙ ap (λ at. first_entry (past g.K.Ord.cmp at c.args.map.now.top)) (sym c.in-Some.is)

@@ -1,0 +1,3 @@
+pub mod Zipped
+pub mod Seen
+pub mod Walk

@@ -1,0 +1,13 @@
+//! Session calls, written once: for maps, for two values that are in the same sessions, and for a value that is seen
+//! through a function and keeps a rule.
+#![tactic(auto)]
+
+mod both;
+mod kept;
+mod sessions;
+mod walk;
+
+pub use both::Both;
+pub use kept::{Kept, Shape};
+pub use sessions::{Entries, Sessions};
+pub use walk::next_entry;
