@@ -1,7 +1,8 @@
-ghost use Rattle.std.specs.Prelude.{◌≡◌, ℕ, ◌≤◌, ◌↔◌, List, [], ◌++◌, length, drop, Some, Contains};
+ghost use Rattle.std.specs.Prelude.{◌≡◌, ◌≢◌, ◌≤◌, [], length, Some};
 ghost use Rattle.ante_base.specs.Faults.{HasCause};
 ghost use Rattle.ante_base.specs.Source.{CountsWithin, Reads};
 ghost use Rattle.ante_base.specs.Sink.{Writes};
+ghost use Rattle.ante_base.specs.Memory.{Fills, ReadsAsListed, WritesAsListed};
 
 use crate::sink::{Put, Sink};
 use crate::source::{Got, Source};
@@ -50,7 +51,14 @@ impl Source for MemSource {
 
     ghost faults = { λ s. s.faults };
 
-    fn read(&mut self, into: &mut [u8]) -> Got {
+    fn read(&mut self, into: &mut [u8]) -> Got
+        requires { 1 ≤ length into.old }
+        ensures count { CountsWithin (length into.old) result }
+        ensures bytes { Reads (Some self.old.left) (Some self.new.left) into.new result }
+        ensures cause { HasCause self.old.faults self.new.faults (result ≡ Got.Failed) }
+        ensures full { Fills (length into.old) self.old result }
+        ensures listed { ReadsAsListed self.old self.new result }
+    {
         let call = self.calls;
         self.calls = self.calls.saturating_add(1);
         if self.failing.contains(&call) {
@@ -112,7 +120,13 @@ impl Sink for MemSink {
 
     ghost faults = { λ s. s.faults };
 
-    fn write(&mut self, bytes: &[u8]) -> Put {
+    fn write(&mut self, bytes: &[u8]) -> Put
+        requires { 1 ≤ length bytes.now }
+        ensures bytes { Writes (Some self.old.written) (Some self.new.written) bytes.now result }
+        ensures cause { HasCause self.old.faults self.new.faults (result ≡ Put.Failed) }
+        ensures whole { result ≢ Put.Failed → result ≡ Put.Wrote (length bytes.now) }
+        ensures listed { WritesAsListed self.old self.new result }
+    {
         let call = self.calls;
         self.calls = self.calls.saturating_add(1);
         if self.failing.contains(&call) || self.bytes.extend_from_slice(bytes).is_err() {
