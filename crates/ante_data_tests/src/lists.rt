@@ -4,8 +4,8 @@ use std::test::Fail;
 #[test]
 fn lists_grow(rt: HostRuntime) -> Result<(), Fail> {
     let mut bytes = Bytes::new(rt.alloc());
-    bytes.push(1)?;
-    bytes.append(&[2, 3])?;
+    bytes.push(rt.alloc(), 1)?;
+    bytes.append(rt.alloc(), &[2, 3])?;
     assert_eq!(rt; bytes.as_slice(), [1, 2, 3].as_slice());
     Ok(())
 }
@@ -14,9 +14,9 @@ fn lists_grow(rt: HostRuntime) -> Result<(), Fail> {
 fn lists_are_joined(rt: HostRuntime) -> Result<(), Fail> {
     let mut first = Seq::new(rt.alloc());
     let mut second = Seq::new(rt.alloc());
-    first.push(1u8)?;
-    second.push(2u8)?;
-    first.append(&mut second)?;
+    first.push(rt.alloc(), 1u8)?;
+    second.push(rt.alloc(), 2u8)?;
+    first.append(rt.alloc(), &mut second)?;
     assert_eq!(rt; first.as_slice(), [1, 2].as_slice());
     assert_eq!(rt; second.len(), 0);
     Ok(())

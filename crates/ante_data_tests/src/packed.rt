@@ -34,20 +34,20 @@ fn bytes_of(alloc: Global, text: &str) -> Result<Vec<u8>, Fail> {
     Ok(hex::decode(alloc, text)?)
 }
 
-fn copy_numbers(from: &mut PackReader<'_>, to: &mut PackWriter) -> Result<(), ReadFault> {
-    to.put_u8(from.u8()?)?;
-    to.put_u16(from.u16()?)?;
-    to.put_u32(from.u32()?)?;
-    to.put_u64(from.u64()?)?;
+fn copy_numbers(alloc: Global, from: &mut PackReader<'_>, to: &mut PackWriter) -> Result<(), ReadFault> {
+    to.put_u8(alloc, from.u8()?)?;
+    to.put_u16(alloc, from.u16()?)?;
+    to.put_u32(alloc, from.u32()?)?;
+    to.put_u64(alloc, from.u64()?)?;
     Ok(())
 }
 
-fn copy_others(from: &mut PackReader<'_>, to: &mut PackWriter) -> Result<(), ReadFault> {
-    to.put_name(from.name()?)?;
-    to.put_varuint(from.varuint()?)?;
-    to.put_varuint(from.varuint()?)?;
-    to.put_digest(&from.digest()?)?;
-    to.put_key(&from.key()?)?;
+fn copy_others(alloc: Global, from: &mut PackReader<'_>, to: &mut PackWriter) -> Result<(), ReadFault> {
+    to.put_name(alloc, from.name()?)?;
+    to.put_varuint(alloc, from.varuint()?)?;
+    to.put_varuint(alloc, from.varuint()?)?;
+    to.put_digest(alloc, &from.digest()?)?;
+    to.put_key(alloc, &from.key()?)?;
     Ok(())
 }
 
@@ -56,7 +56,7 @@ fn numbers_go_both_ways(rt: HostRuntime) -> Result<(), Fail> {
     let packed = bytes_of(rt.alloc(), NUMBERS)?;
     let mut reader = PackReader::new(&packed);
     let mut writer = PackWriter::new(rt.alloc());
-    copy_numbers(&mut reader, &mut writer)?;
+    copy_numbers(rt.alloc(), &mut reader, &mut writer)?;
     assert_eq!(rt; writer.into_bytes().as_slice(), packed.as_slice());
     Ok(())
 }
@@ -66,7 +66,7 @@ fn other_fields_go_both_ways(rt: HostRuntime) -> Result<(), Fail> {
     let packed = bytes_of(rt.alloc(), OTHERS)?;
     let mut reader = PackReader::new(&packed);
     let mut writer = PackWriter::new(rt.alloc());
-    copy_others(&mut reader, &mut writer)?;
+    copy_others(rt.alloc(), &mut reader, &mut writer)?;
     assert_eq!(rt; writer.into_bytes().as_slice(), packed.as_slice());
     Ok(())
 }

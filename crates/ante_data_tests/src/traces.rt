@@ -30,7 +30,7 @@ fn failure_text(failure: &str) -> [&str; 3] {
 fn expected(alloc: Global, failure: &str) -> Result<Bytes, AllocError> {
     let mut text = Bytes::new(alloc);
     for part in failure_text(failure) {
-        text.append(part.as_bytes())?;
+        text.append(alloc, part.as_bytes())?;
     }
     Ok(text)
 }

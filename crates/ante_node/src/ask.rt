@@ -56,6 +56,6 @@ pub fn answer(alloc: Global, asked: &Asked) -> Result<Bytes, AllocError>
 {
     let trace = read_only(alloc, 0, builtin_head(), asked)?;
     let mut text = trace_text(alloc, &trace)?;
-    text.append(b"\n")?;
+    text.append(alloc, b"\n")?;
     Ok(text)
 }

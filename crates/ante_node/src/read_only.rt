@@ -167,7 +167,7 @@ fn run_actions(
     let mut runs = Seq::new(alloc);
     for (i, action) in actions.iter().enumerate() {
         let run = run_of(alloc, i as u32 + 1, action)?;
-        runs.push(run)?;
+        runs.push(alloc, run)?;
         if is_native(action) {
             let refused = refusal(alloc, action.name)?;
             return Ok((runs, Some(refused)));

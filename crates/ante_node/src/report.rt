@@ -29,9 +29,9 @@ pub fn words_line(alloc: Global, at: u64) -> Result<Bytes, AllocError>
 {
     let mut buffer = Buffer::new();
     let mut line = Bytes::new(alloc);
-    line.append(b"words ")?;
-    line.append(buffer.format(at).as_bytes())?;
-    line.append(b"\n")?;
+    line.append(alloc, b"words ")?;
+    line.append(alloc, buffer.format(at).as_bytes())?;
+    line.append(alloc, b"\n")?;
     Ok(line)
 }
 
@@ -42,11 +42,11 @@ pub fn input_line(alloc: Global, fault: InputFault) -> Result<Bytes, AllocError>
 {
     let mut buffer = Buffer::new();
     let mut line = Bytes::new(alloc);
-    line.append(b"input ")?;
-    line.append(buffer.format(fault.at).as_bytes())?;
-    line.append(b" ")?;
-    line.append(kind_text(fault.kind))?;
-    line.append(b"\n")?;
+    line.append(alloc, b"input ")?;
+    line.append(alloc, buffer.format(fault.at).as_bytes())?;
+    line.append(alloc, b" ")?;
+    line.append(alloc, kind_text(fault.kind))?;
+    line.append(alloc, b"\n")?;
     Ok(line)
 }
 

@@ -58,8 +58,8 @@ impl Packed for Name {
         Ok(reader.name()?)
     }
 
-    fn write(&self, writer: &mut PackWriter) -> Result<(), AllocError> {
-        writer.put_name(*self)
+    fn write(&self, alloc: Global, writer: &mut PackWriter) -> Result<(), AllocError> {
+        writer.put_name(alloc, *self)
     }
 }
 
@@ -76,9 +76,9 @@ impl Packed for Level {
     }
 
     #[tactic(auto, using(crate::proofs::Pieces::onto), unfolding(crate::specs::Packed::level))]
-    fn write(&self, writer: &mut PackWriter) -> Result<(), AllocError> {
-        writer.put_name(self.actor)?;
-        writer.put_name(self.permission)
+    fn write(&self, alloc: Global, writer: &mut PackWriter) -> Result<(), AllocError> {
+        writer.put_name(alloc, self.actor)?;
+        writer.put_name(alloc, self.permission)
     }
 }
 
@@ -95,9 +95,9 @@ impl Packed for KeyWeight {
     }
 
     #[tactic(auto, using(crate::proofs::Pieces::onto), unfolding(crate::specs::Packed::key_weight))]
-    fn write(&self, writer: &mut PackWriter) -> Result<(), AllocError> {
-        writer.put_key(&self.key)?;
-        writer.put_u16(self.weight)
+    fn write(&self, alloc: Global, writer: &mut PackWriter) -> Result<(), AllocError> {
+        writer.put_key(alloc, &self.key)?;
+        writer.put_u16(alloc, self.weight)
     }
 }
 
@@ -114,9 +114,9 @@ impl Packed for LevelWeight {
     }
 
     #[tactic(auto, using(crate::proofs::Pieces::onto), unfolding(crate::specs::Packed::level_weight))]
-    fn write(&self, writer: &mut PackWriter) -> Result<(), AllocError> {
-        self.level.write(writer)?;
-        writer.put_u16(self.weight)
+    fn write(&self, alloc: Global, writer: &mut PackWriter) -> Result<(), AllocError> {
+        self.level.write(alloc, writer)?;
+        writer.put_u16(alloc, self.weight)
     }
 }
 
@@ -133,9 +133,9 @@ impl Packed for WaitWeight {
     }
 
     #[tactic(auto, using(crate::proofs::Pieces::onto), unfolding(crate::specs::Packed::wait_weight))]
-    fn write(&self, writer: &mut PackWriter) -> Result<(), AllocError> {
-        writer.put_u32(self.seconds)?;
-        writer.put_u16(self.weight)
+    fn write(&self, alloc: Global, writer: &mut PackWriter) -> Result<(), AllocError> {
+        writer.put_u32(alloc, self.seconds)?;
+        writer.put_u16(alloc, self.weight)
     }
 }
 
@@ -159,11 +159,11 @@ impl Packed for Authority {
     }
 
     #[tactic(auto, using(crate::proofs::Pieces::onto), unfolding(crate::specs::Packed::authority))]
-    fn write(&self, writer: &mut PackWriter) -> Result<(), AllocError> {
-        writer.put_u32(self.threshold)?;
-        write_seq(writer, &self.keys)?;
-        write_seq(writer, &self.accounts)?;
-        write_seq(writer, &self.waits)
+    fn write(&self, alloc: Global, writer: &mut PackWriter) -> Result<(), AllocError> {
+        writer.put_u32(alloc, self.threshold)?;
+        write_seq(alloc, writer, &self.keys)?;
+        write_seq(alloc, writer, &self.accounts)?;
+        write_seq(alloc, writer, &self.waits)
     }
 }
 
@@ -188,5 +188,5 @@ pub fn write_authority(
     ensures err { OnErr result (writer.new ≡ writer.old) }
 {
     let packed = write_whole(alloc, value)?;
-    writer.put_raw(packed.as_slice())
+    writer.put_raw(alloc, packed.as_slice())
 }

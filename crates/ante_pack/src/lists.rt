@@ -59,7 +59,7 @@ impl Bytes {
         self.bytes.as_slice()
     }
 
-    pub fn push(&mut self, byte: u8) -> Result<(), AllocError>
+    pub fn push(&mut self, _alloc: Global, byte: u8) -> Result<(), AllocError>
         ensures ok { OnOk result (self.new ≡ self.old ++ byte ∷ []) }
         ensures err { OnErr result (self.new ≡ self.old) }
     {
@@ -67,7 +67,7 @@ impl Bytes {
         Ok(())
     }
 
-    pub fn append(&mut self, bytes: &[u8]) -> Result<(), AllocError>
+    pub fn append(&mut self, _alloc: Global, bytes: &[u8]) -> Result<(), AllocError>
         ensures ok { OnOk result (self.new ≡ self.old ++ bytes.now) }
         ensures err { OnErr result (self.new ≡ self.old) }
     {
@@ -127,7 +127,7 @@ impl<T> Seq<T> {
         self.items.as_slice()
     }
 
-    pub fn push(&mut self, item: T) -> Result<(), AllocError>
+    pub fn push(&mut self, _alloc: Global, item: T) -> Result<(), AllocError>
     where
         T: Drop,
         ensures ok { OnOk result (self.new ≡ self.old ++ item ∷ []) }
@@ -138,7 +138,7 @@ impl<T> Seq<T> {
     }
 
     /// Moves all items of `other` to the end and leaves it empty; a refusal moves none.
-    pub fn append(&mut self, other: &mut Seq<T>) -> Result<(), AllocError>
+    pub fn append(&mut self, _alloc: Global, other: &mut Seq<T>) -> Result<(), AllocError>
         ensures ok { OnOk result (self.new ≡ self.old ++ other.old) }
         ensures empty { OnOk result (other.new ≡ []) }
         ensures err { OnErr result (self.new ≡ self.old) }

@@ -18,7 +18,7 @@ pub trait Packed: Drop {
         ensures { ReadsTo result reader.new (form.read reader.old) };
 
     /// After a refusal what was written says nothing.
-    fn write(&self, writer: &mut PackWriter) -> Result<(), AllocError>
+    fn write(&self, alloc: Global, writer: &mut PackWriter) -> Result<(), AllocError>
         requires { form.Fits self.now }
         ensures { OnOk result (Adds writer.old writer.new (form.spell self.now)) };
 }
@@ -33,7 +33,7 @@ fn read_items<T: Packed>(
     let mut items = Seq::new(alloc);
     for _ in 0..count {
         let item = T::read(alloc, reader)?;
-        items.push(item)?;
+        items.push(alloc, item)?;
     }
     Ok(items)
 }
@@ -56,23 +56,31 @@ pub fn read_whole<T: Packed>(alloc: Global, packed: &[u8]) -> Result<T, ReadFaul
     Ok(value)
 }
 
-fn write_items<T: Packed>(writer: &mut PackWriter, items: &[T]) -> Result<(), AllocError>
+fn write_items<T: Packed>(
+    alloc: Global,
+    writer: &mut PackWriter,
+    items: &[T],
+) -> Result<(), AllocError>
     requires { All T.form.Fits items.now }
     ensures { OnOk result (Adds writer.old writer.new (flat_map T.form.spell items.now)) }
 {
     for item in items {
-        item.write(writer)?;
+        item.write(alloc, writer)?;
     }
     Ok(())
 }
 
 /// Writes a count and the items.
-pub fn write_seq<T: Packed>(writer: &mut PackWriter, items: &Seq<T>) -> Result<(), AllocError>
+pub fn write_seq<T: Packed>(
+    alloc: Global,
+    writer: &mut PackWriter,
+    items: &Seq<T>,
+) -> Result<(), AllocError>
     requires { (list_of T.form).Fits items.now }
     ensures { OnOk result (Adds writer.old writer.new ((list_of T.form).spell items.now)) }
 {
-    writer.put_varuint(items.len() as u32)?;
-    write_items(writer, items.as_slice())
+    writer.put_varuint(alloc, items.len() as u32)?;
+    write_items(alloc, writer, items.as_slice())
 }
 
 /// The spelling of a value.
@@ -81,7 +89,7 @@ pub fn write_whole<T: Packed>(alloc: Global, value: &T) -> Result<Bytes, AllocEr
     ensures { IfOk result (λ bytes. bytes ≡ T.form.spell value.now) }
 {
     let mut writer = PackWriter::new(alloc);
-    value.write(&mut writer)?;
+    value.write(alloc, &mut writer)?;
     Ok(writer.into_bytes())
 }
 
@@ -96,7 +104,7 @@ impl Packed for Bytes {
     }
 
     #[tactic(auto, unfolding(crate::specs::Forms::string))]
-    fn write(&self, writer: &mut PackWriter) -> Result<(), AllocError> {
-        writer.put_bytes(self.as_slice())
+    fn write(&self, alloc: Global, writer: &mut PackWriter) -> Result<(), AllocError> {
+        writer.put_bytes(alloc, self.as_slice())
     }
 }

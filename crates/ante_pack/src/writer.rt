@@ -33,7 +33,7 @@ impl PackWriter {
     }
 
     /// Bytes as they are, with no length before them.
-    pub fn put_raw(&mut self, bytes: &[u8]) -> Result<(), AllocError>
+    pub fn put_raw(&mut self, _alloc: Global, bytes: &[u8]) -> Result<(), AllocError>
         ensures ok { OnOk result (Adds self.old self.new bytes.now) }
         ensures err { OnErr result (self.new ≡ self.old) }
     {
@@ -41,58 +41,58 @@ impl PackWriter {
     }
 
     #[tactic(auto, unfolding(crate::specs::Packed::u8))]
-    pub fn put_u8(&mut self, value: u8) -> Result<(), AllocError>
+    pub fn put_u8(&mut self, alloc: Global, value: u8) -> Result<(), AllocError>
         ensures ok { OnOk result (Adds self.old self.new (forms.u8.spell value)) }
         ensures err { OnErr result (self.new ≡ self.old) }
     {
-        self.put_raw(&value.to_le_bytes())
+        self.put_raw(alloc, &value.to_le_bytes())
     }
 
     #[tactic(auto, unfolding(crate::specs::Packed::u16))]
-    pub fn put_u16(&mut self, value: u16) -> Result<(), AllocError>
+    pub fn put_u16(&mut self, alloc: Global, value: u16) -> Result<(), AllocError>
         ensures ok { OnOk result (Adds self.old self.new (forms.u16.spell value)) }
         ensures err { OnErr result (self.new ≡ self.old) }
     {
-        self.put_raw(&value.to_le_bytes())
+        self.put_raw(alloc, &value.to_le_bytes())
     }
 
     #[tactic(auto, unfolding(crate::specs::Packed::u32))]
-    pub fn put_u32(&mut self, value: u32) -> Result<(), AllocError>
+    pub fn put_u32(&mut self, alloc: Global, value: u32) -> Result<(), AllocError>
         ensures ok { OnOk result (Adds self.old self.new (forms.u32.spell value)) }
         ensures err { OnErr result (self.new ≡ self.old) }
     {
-        self.put_raw(&value.to_le_bytes())
+        self.put_raw(alloc, &value.to_le_bytes())
     }
 
     #[tactic(auto, unfolding(crate::specs::Packed::u64))]
-    pub fn put_u64(&mut self, value: u64) -> Result<(), AllocError>
+    pub fn put_u64(&mut self, alloc: Global, value: u64) -> Result<(), AllocError>
         ensures ok { OnOk result (Adds self.old self.new (forms.u64.spell value)) }
         ensures err { OnErr result (self.new ≡ self.old) }
     {
-        self.put_raw(&value.to_le_bytes())
+        self.put_raw(alloc, &value.to_le_bytes())
     }
 
     #[tactic(auto, unfolding(crate::specs::Packed::name))]
-    pub fn put_name(&mut self, value: Name) -> Result<(), AllocError>
+    pub fn put_name(&mut self, alloc: Global, value: Name) -> Result<(), AllocError>
         ensures ok { OnOk result (Adds self.old self.new (forms.name.spell value)) }
         ensures err { OnErr result (self.new ≡ self.old) }
     {
-        self.put_u64(value.0)
+        self.put_u64(alloc, value.0)
     }
 
     /// LEB128, in the shortest spelling.
-    pub fn put_varuint(&mut self, value: u32) -> Result<(), AllocError>
+    pub fn put_varuint(&mut self, alloc: Global, value: u32) -> Result<(), AllocError>
         ensures ok { OnOk result (Adds self.old self.new (varuint.spell value)) }
         ensures err { OnErr result (self.new ≡ self.old) }
     {
         let (text, len) = varuint_text(value);
         let (front, _) = text.split_at(len);
-        self.put_raw(front)
+        self.put_raw(alloc, front)
     }
 
     /// A length and the bytes, of which there are fewer than 2^32.
     #[tactic(auto, unfolding(crate::specs::Forms::string))]
-    pub fn put_bytes(&mut self, value: &[u8]) -> Result<(), AllocError>
+    pub fn put_bytes(&mut self, _alloc: Global, value: &[u8]) -> Result<(), AllocError>
         requires { length value.now < 2 ^ 32 }
         ensures ok { OnOk result (Adds self.old self.new (string.spell value.now)) }
         ensures err { OnErr result (self.new ≡ self.old) }
@@ -103,19 +103,19 @@ impl PackWriter {
     }
 
     #[tactic(auto, unfolding(crate::specs::Packed::digest))]
-    pub fn put_digest(&mut self, value: &Digest) -> Result<(), AllocError>
+    pub fn put_digest(&mut self, alloc: Global, value: &Digest) -> Result<(), AllocError>
         ensures ok { OnOk result (Adds self.old self.new (forms.digest.spell value.now)) }
         ensures err { OnErr result (self.new ≡ self.old) }
     {
-        self.put_raw(value)
+        self.put_raw(alloc, value)
     }
 
     #[tactic(auto, unfolding(crate::specs::Packed::key))]
-    pub fn put_key(&mut self, value: &Key) -> Result<(), AllocError>
+    pub fn put_key(&mut self, alloc: Global, value: &Key) -> Result<(), AllocError>
         ensures ok { OnOk result (Adds self.old self.new (forms.key.spell value.now)) }
         ensures err { OnErr result (self.new ≡ self.old) }
     {
-        self.put_raw(value)
+        self.put_raw(alloc, value)
     }
 
     /// All that was written.

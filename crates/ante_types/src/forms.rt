@@ -31,11 +31,11 @@ impl Packed for Action {
     }
 
     #[tactic(auto, using(ante_pack::proofs::Pieces::onto), unfolding(crate::specs::Chain::action))]
-    fn write(&self, writer: &mut PackWriter) -> Result<(), AllocError> {
-        writer.put_name(self.account)?;
-        writer.put_name(self.name)?;
-        write_seq(writer, &self.authorization)?;
-        self.bytes.write(writer)
+    fn write(&self, alloc: Global, writer: &mut PackWriter) -> Result<(), AllocError> {
+        writer.put_name(alloc, self.account)?;
+        writer.put_name(alloc, self.name)?;
+        write_seq(alloc, writer, &self.authorization)?;
+        self.bytes.write(alloc, writer)
     }
 }
 
@@ -52,9 +52,9 @@ impl Packed for Extension {
     }
 
     #[tactic(auto, using(ante_pack::proofs::Pieces::onto), unfolding(crate::specs::Chain::extension))]
-    fn write(&self, writer: &mut PackWriter) -> Result<(), AllocError> {
-        writer.put_u16(self.kind)?;
-        self.bytes.write(writer)
+    fn write(&self, alloc: Global, writer: &mut PackWriter) -> Result<(), AllocError> {
+        writer.put_u16(alloc, self.kind)?;
+        self.bytes.write(alloc, writer)
     }
 }
 
@@ -88,16 +88,16 @@ impl Packed for Transaction {
     }
 
     #[tactic(auto, unfolding(crate::specs::Chain::transaction))]
-    fn write(&self, writer: &mut PackWriter) -> Result<(), AllocError> {
-        writer.put_u32(self.expiration)?;
-        writer.put_u16(self.ref_block_num)?;
-        writer.put_u32(self.ref_block_prefix)?;
-        writer.put_varuint(self.max_net_usage_words)?;
-        writer.put_u8(self.max_cpu_usage_ms)?;
-        writer.put_varuint(self.delay_sec)?;
-        write_seq(writer, &self.context_free_actions)?;
-        write_seq(writer, &self.actions)?;
-        write_seq(writer, &self.extensions)?;
+    fn write(&self, alloc: Global, writer: &mut PackWriter) -> Result<(), AllocError> {
+        writer.put_u32(alloc, self.expiration)?;
+        writer.put_u16(alloc, self.ref_block_num)?;
+        writer.put_u32(alloc, self.ref_block_prefix)?;
+        writer.put_varuint(alloc, self.max_net_usage_words)?;
+        writer.put_u8(alloc, self.max_cpu_usage_ms)?;
+        writer.put_varuint(alloc, self.delay_sec)?;
+        write_seq(alloc, writer, &self.context_free_actions)?;
+        write_seq(alloc, writer, &self.actions)?;
+        write_seq(alloc, writer, &self.extensions)?;
         Ok(())
     }
 }
@@ -120,10 +120,10 @@ impl Packed for Receipt {
     }
 
     #[tactic(auto, using(ante_pack::proofs::Pieces::onto), unfolding(crate::specs::Chain::receipt))]
-    fn write(&self, writer: &mut PackWriter) -> Result<(), AllocError> {
-        writer.put_u32(self.steps)?;
-        self.packed.write(writer)?;
-        write_seq(writer, &self.signatures)
+    fn write(&self, alloc: Global, writer: &mut PackWriter) -> Result<(), AllocError> {
+        writer.put_u32(alloc, self.steps)?;
+        self.packed.write(alloc, writer)?;
+        write_seq(alloc, writer, &self.signatures)
     }
 }
 
@@ -147,11 +147,11 @@ impl Packed for Header {
     }
 
     #[tactic(auto, using(ante_pack::proofs::Pieces::onto), unfolding(crate::specs::Chain::header))]
-    fn write(&self, writer: &mut PackWriter) -> Result<(), AllocError> {
-        writer.put_u32(self.slot)?;
-        writer.put_name(self.producer)?;
-        writer.put_digest(&self.previous)?;
-        writer.put_digest(&self.trx_root)
+    fn write(&self, alloc: Global, writer: &mut PackWriter) -> Result<(), AllocError> {
+        writer.put_u32(alloc, self.slot)?;
+        writer.put_name(alloc, self.producer)?;
+        writer.put_digest(alloc, &self.previous)?;
+        writer.put_digest(alloc, &self.trx_root)
     }
 }
 
@@ -173,10 +173,10 @@ impl Packed for Block {
     }
 
     #[tactic(auto, using(ante_pack::proofs::Pieces::onto), unfolding(crate::specs::Chain::block))]
-    fn write(&self, writer: &mut PackWriter) -> Result<(), AllocError> {
-        self.header.write(writer)?;
-        self.seal.write(writer)?;
-        write_seq(writer, &self.receipts)
+    fn write(&self, alloc: Global, writer: &mut PackWriter) -> Result<(), AllocError> {
+        self.header.write(alloc, writer)?;
+        self.seal.write(alloc, writer)?;
+        write_seq(alloc, writer, &self.receipts)
     }
 }
 
@@ -200,11 +200,11 @@ impl Packed for GenesisAccount {
     }
 
     #[tactic(auto, using(ante_pack::proofs::Pieces::onto), unfolding(crate::specs::Chain::genesis_account))]
-    fn write(&self, writer: &mut PackWriter) -> Result<(), AllocError> {
-        writer.put_name(self.name)?;
-        self.owner.write(writer)?;
-        self.active.write(writer)?;
-        self.code.write(writer)
+    fn write(&self, alloc: Global, writer: &mut PackWriter) -> Result<(), AllocError> {
+        writer.put_name(alloc, self.name)?;
+        self.owner.write(alloc, writer)?;
+        self.active.write(alloc, writer)?;
+        self.code.write(alloc, writer)
     }
 }
 
@@ -228,11 +228,11 @@ impl Packed for Genesis {
     }
 
     #[tactic(auto, using(ante_pack::proofs::Pieces::onto), unfolding(crate::specs::Chain::genesis))]
-    fn write(&self, writer: &mut PackWriter) -> Result<(), AllocError> {
-        writer.put_u32(self.version)?;
-        writer.put_u32(self.slot)?;
-        write_seq(writer, &self.producers)?;
-        write_seq(writer, &self.accounts)
+    fn write(&self, alloc: Global, writer: &mut PackWriter) -> Result<(), AllocError> {
+        writer.put_u32(alloc, self.version)?;
+        writer.put_u32(alloc, self.slot)?;
+        write_seq(alloc, writer, &self.producers)?;
+        write_seq(alloc, writer, &self.accounts)
     }
 }
 

@@ -36,7 +36,7 @@ pub fn trx_root(alloc: Global, receipts: &Seq<Receipt>) -> Result<Digest, AllocE
     ensures { IfOk result (λ root. root ≡ ids.trx_root receipts.now) }
 {
     let mut writer = PackWriter::new(alloc);
-    write_seq(&mut writer, receipts)?;
+    write_seq(alloc, &mut writer, receipts)?;
     Ok(Sha256::digest(writer.as_slice()))
 }
 

@@ -51,7 +51,7 @@ fn labels(alloc: Global, count: u32, bytes: &[u8]) -> Result<(Seq<u32>, &[u8]), 
     let mut rest = bytes;
     for _ in 0..count {
         let (label, after) = number(rest)?;
-        labels.push(label)?;
+        labels.push(alloc, label)?;
         rest = after;
     }
     Ok((labels, rest))
