@@ -34,7 +34,11 @@ fn bytes_of(alloc: Global, text: &str) -> Result<Vec<u8>, Fail> {
     Ok(hex::decode(alloc, text)?)
 }
 
-fn copy_numbers(alloc: Global, from: &mut PackReader<'_>, to: &mut PackWriter) -> Result<(), ReadFault> {
+fn copy_numbers(
+    alloc: Global,
+    from: &mut PackReader<'_>,
+    to: &mut PackWriter,
+) -> Result<(), ReadFault> {
     to.put_u8(alloc, from.u8()?)?;
     to.put_u16(alloc, from.u16()?)?;
     to.put_u32(alloc, from.u32()?)?;
@@ -42,7 +46,11 @@ fn copy_numbers(alloc: Global, from: &mut PackReader<'_>, to: &mut PackWriter) -
     Ok(())
 }
 
-fn copy_others(alloc: Global, from: &mut PackReader<'_>, to: &mut PackWriter) -> Result<(), ReadFault> {
+fn copy_others(
+    alloc: Global,
+    from: &mut PackReader<'_>,
+    to: &mut PackWriter,
+) -> Result<(), ReadFault> {
     to.put_name(alloc, from.name()?)?;
     to.put_varuint(alloc, from.varuint()?)?;
     to.put_varuint(alloc, from.varuint()?)?;

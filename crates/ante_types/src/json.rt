@@ -15,7 +15,12 @@ pub fn put_text(alloc: Global, out: &mut Bytes, text: &[u8]) -> Result<(), Alloc
     out.append(alloc, text)
 }
 
-pub fn put_number(alloc: Global, out: &mut Bytes, before: &[u8], number: u64) -> Result<(), AllocError>
+pub fn put_number(
+    alloc: Global,
+    out: &mut Bytes,
+    before: &[u8],
+    number: u64,
+) -> Result<(), AllocError>
     ensures { OnOk result (Adds out.old out.new (before.now ++ decimal number)) }
 {
     let mut buffer = Buffer::new();
@@ -24,7 +29,12 @@ pub fn put_number(alloc: Global, out: &mut Bytes, before: &[u8], number: u64) ->
     Ok(())
 }
 
-pub fn put_signed(alloc: Global, out: &mut Bytes, before: &[u8], number: i64) -> Result<(), AllocError>
+pub fn put_signed(
+    alloc: Global,
+    out: &mut Bytes,
+    before: &[u8],
+    number: i64,
+) -> Result<(), AllocError>
     ensures { OnOk result (Adds out.old out.new (before.now ++ signed_decimal number)) }
 {
     let mut buffer = Buffer::new();
@@ -33,7 +43,12 @@ pub fn put_signed(alloc: Global, out: &mut Bytes, before: &[u8], number: i64) ->
     Ok(())
 }
 
-pub fn put_quoted(alloc: Global, out: &mut Bytes, before: &[u8], text: &[u8]) -> Result<(), AllocError>
+pub fn put_quoted(
+    alloc: Global,
+    out: &mut Bytes,
+    before: &[u8],
+    text: &[u8],
+) -> Result<(), AllocError>
     ensures { OnOk result (Adds out.old out.new (before.now ++ quoted text.now)) }
 {
     out.append(alloc, before)?;
