@@ -3,7 +3,7 @@ ghost use Rattle.ante_base.specs.Faults.{HasCause};
 ghost use Rattle.ante_base.specs.Source.{CountsWithin, Reads};
 
 use super::rows::ROWS;
-use ante_base::{Got, MemSink, MemSource, Sink, Source};
+use ante_base::{AtLook, Got, MemSink, MemSource, NeverStop, Sink, Source, Stop};
 use ante_node::{NodeEnd, run_node};
 use std::alloc::Global;
 use std::test::Fail;
@@ -106,5 +106,16 @@ fn failing_calls_are_named(rt: HostRuntime) -> Result<(), Fail> {
     let mut files = source(alloc, "0", Vec::new(alloc))?;
     let mut out = MemSink::new(alloc, vec![in alloc; 0]?);
     assert_eq!(rt; ask(alloc, &["ask"], &mut files, &mut out)?.status, 3);
+    Ok(())
+}
+
+#[test]
+fn a_stop_asks_at_one_look(rt: HostRuntime) -> Result<(), Fail> {
+    let mut stop = AtLook::new(2, 9);
+    for answer in [None, None, Some(9), None] {
+        assert_eq!(rt; stop.look(), answer);
+    }
+    assert_eq!(rt; stop.looks(), 4);
+    assert_eq!(rt; NeverStop.look(), None);
     Ok(())
 }
