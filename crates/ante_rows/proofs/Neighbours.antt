@@ -1,14 +1,26 @@
 -- A neighbour in the map of all rows is one in the list of the table's rows, or none of the table's.
-use Rattle.std.proofs.Common.{◌≡◌, ℕ, Bool, true, false, true≢false, cond, T, List, [], ◌∷◌, Option, Some, None, refl, sym, ap, subst, ◌∙◌, Ordering, Less, Equal, Greater, is_lt, is_eq}
-use Rattle.std.specs.Ordering.{eq_by_cmp, nat_cmp, ordering_then, ordering_reverse}
+use Rattle.std.proofs.Common.{◌≡◌, ℕ, Bool, true, false, true≢false, cond, ◌&&◌, T, List, [], ◌∷◌, Option, Some, None, refl, sym, ap, subst, ◌∙◌, Ordering, Less, Equal, Greater, is_lt, is_eq}
+use Rattle.std.specs.Ordering.{nat_cmp, ordering_then, ordering_reverse}
 use Rattle.std.specs.Option.{option_or}
 use Rattle.std.specs.Cmp.{IsTotalOrder}
 use Rattle.std.specs.FinMap.Entries.{find, is_sorted, below_all}
 use Rattle.ante_undo.specs.Entries.{first_where, last_where}
-use Rattle.ante_undo.proofs.Entries.{first, second, less}
+use Rattle.ante_undo.proofs.Entries.{first, second}
 use Rattle.ante_pack.specs.declared.names.TableKey.{TableKey}
 use Rattle.ante_rows.specs.declared.keys.RowKey.{RowKey}
 use Rattle.ante_rows.specs.Rows.{row_order, rows_of, in_table}
+
+-- by contract, then by scope, then by name
+abbrev pub by_place : TableKey → TableKey → Ordering
+by_place a b = ordering_then (nat_cmp a.code.0 b.code.0) (ordering_then (nat_cmp a.scope.0 b.scope.0) (nat_cmp a.table.0 b.table.0))
+
+both : (a b : Bool) → T a → T b → T (a && b)
+both true b p q = q
+both false b p q = p
+
+pub is_true : (b : Bool) → T b → b ≡ true
+is_true true h = refl
+is_true false h = absurd h
 
 module _ (tables : TableKey → TableKey → Ordering) (o : IsTotalOrder tables) where
   -- the table of a later row is above what an earlier row's table is above
@@ -103,3 +115,27 @@ module _ (tables : TableKey → TableKey → Ordering) (o : IsTotalOrder tables)
           | Equal ↦ λ is. ap (λ r. cond (is_eq (ordering_then r (nat_cmp p e.0.primary))) (Some e.1) (find (row_order tables) (record { table = t; primary = p }) es)) (o.antisymm t e.0.table ∙ ap ordering_reverse is) ∙ ap (cond (is_eq (nat_cmp p e.0.primary)) (Some e.1)) rest
           | Greater ↦ λ is. ap (λ r. cond (is_eq (ordering_then r (nat_cmp p e.0.primary))) (Some e.1) (find (row_order tables) (record { table = t; primary = p }) es)) (o.antisymm t e.0.table ∙ ap ordering_reverse is) ∙ rest
         ] refl
+
+    rows_below : (t : TableKey) (x : RowKey) (es : List (RowKey × V)) → tables x.table t ≡ Equal → T (below_all (row_order tables) x es) → T (below_all nat_cmp x.primary (rows_of tables t es))
+    rows_below t x [] ties h = tt
+    rows_below t x (e ∷ es) ties h = from (tables e.0.table t) refl (rows_below t x es ties (second _ _ h))
+      where
+        from : (r : Ordering) → tables e.0.table t ≡ r → T (below_all nat_cmp x.primary (rows_of tables t es)) → T (below_all nat_cmp x.primary (cond (is_eq r) ((e.0.primary, e.1) ∷ rows_of tables t es) (rows_of tables t es)))
+        from Less is rest = rest
+        from Equal is rest =
+            let tie : tables x.table e.0.table ≡ Equal = o.congr x.table t e.0.table ties ∙ o.antisymm t e.0.table ∙ ap ordering_reverse is in
+            both _ _ (subst (λ r. T (is_lt (ordering_then r (nat_cmp x.primary e.0.primary)))) tie (first _ _ h)) rest
+        from Greater is rest = rest
+
+    rows_rise : (t : TableKey) (m : List (RowKey × V)) → T (is_sorted (row_order tables) m) → T (is_sorted nat_cmp (rows_of tables t m))
+    rows_rise t [] h = tt
+    rows_rise t (e ∷ es) h = from (tables e.0.table t) refl (rows_rise t es (second _ _ h))
+      where
+        from : (r : Ordering) → tables e.0.table t ≡ r → T (is_sorted nat_cmp (rows_of tables t es)) → T (is_sorted nat_cmp (cond (is_eq r) ((e.0.primary, e.1) ∷ rows_of tables t es) (rows_of tables t es)))
+        from Less is rest = rest
+        from Equal is rest = both _ _ (rows_below t e.0 es is (first _ _ h)) rest
+        from Greater is rest = rest
+
+    -- the rows of a table rise by their primary keys
+    pub rows_ordered : (t : TableKey) (m : List (RowKey × V)) → is_sorted (row_order tables) m ≡ true → is_sorted nat_cmp (rows_of tables t m) ≡ true
+    rows_ordered t m h = is_true _ (rows_rise t m (subst T (sym h) tt))

@@ -1,6 +1,7 @@
 -- The rows of a table as a list by primary key, in which neighbours are places.
-use Rattle.std.specs.Prelude.{ℕ, Bool, List, [], ◌∷◌, Option, Some, None, if◌then◌else◌}
+use Rattle.std.specs.Prelude.{ℕ, List, [], ◌∷◌, Option, Some, None, if◌then◌else◌}
 use Rattle.std.specs.declared.cmp.Ordering.{Ordering}
+use Rattle.std.specs.Option.{option_or}
 use Rattle.std.specs.Ordering.{eq_by_cmp, nat_cmp, ordering_then}
 use Rattle.ante_pack.specs.declared.names.TableKey.{TableKey}
 use Rattle.ante_rows.specs.declared.keys.RowKey.{RowKey}
@@ -21,5 +22,11 @@ module _ (tables : TableKey → TableKey → Ordering) where
     in_table table None = None
     in_table table (Some e) = if eq_by_cmp tables e.0.table table then Some (e.0.primary, e.1) else None
 
+-- the last of the entries
+abbrev pub last_entry : {K V : Type 0} → List (K × V) → Option (K × V)
+last_entry [] = None
+last_entry (e ∷ es) = option_or (last_entry es) (Some e)
+
+-- tables and rows keep no rule between them
 abbrev pub nothing : {M : Type 0} → M → Type 0
 nothing m = Unit {0}

@@ -1,16 +1,16 @@
-ghost use Rattle.std.specs.Prelude.{◌≡◌, [], ◌<◌, ◌^◌, Some, None, OnOk, OnErr, IfOk, is_some};
+ghost use Rattle.std.specs.Prelude.{◌≡◌, [], ◌<◌, ◌≤◌, ◌^◌, Some, None, OnOk, OnErr, IfOk, is_some, IsTrue, true};
 ghost use Rattle.std.specs.Option.{option_map, option_copied};
 ghost use Rattle.std.specs.Ordering.{nat_cmp};
-ghost use Rattle.std.specs.FinMap.Entries.{find};
+ghost use Rattle.std.specs.FinMap.Entries.{find, is_sorted};
 ghost use Rattle.ante_undo.specs.Stack.{opened, with_top, begun, committed, IsSquashed, without_shelf, IsShelved, IsUnshelved, IsAbove, IsSound};
 ghost use Rattle.ante_undo.specs.Entries.{changed, entry_from, entry_after, entry_before};
-ghost use Rattle.ante_rows.specs.Rows.{rows_of, in_table, nothing};
+ghost use Rattle.ante_rows.specs.Rows.{rows_of, in_table, last_entry, nothing};
 ghost use Rattle.std.specs.Map.Iter.{deref_pair};
 
 use crate::keys::{PrimaryRow, RowKey, TableRow};
 use crate::laws::table_order;
 use ante_pack::TableKey;
-use ante_sessions::{Both, Entries, Kept, Sessions, Shape};
+use ante_sessions::{Both, Entries, Kept, Sessions, Shape, set_entry};
 use ante_undo::Layered;
 use std::alloc::{AllocError, Global};
 use std::marker::{Model, PhantomData};
@@ -74,14 +74,16 @@ impl Rows {
 
     /// The first table at or after the key.
     pub fn table_from(&self, key: &TableKey) -> Option<(&TableKey, &TableRow)>
-        ensures { option_map deref_pair result ≡ entry_from ⟦<TableKey as Ord>⟧.cmp key.now self.now.top.tables }
+        ensures nearest { option_map deref_pair result ≡ entry_from ⟦<TableKey as Ord>⟧.cmp key.now self.now.top.tables }
+        ensures ordered { IsTrue (is_sorted ⟦<TableKey as Ord>⟧.cmp self.now.top.tables) }
     {
         self.kept.inner.first.at_or_after(key)
     }
 
     /// The first table after the key.
     pub fn table_after(&self, key: &TableKey) -> Option<(&TableKey, &TableRow)>
-        ensures { option_map deref_pair result ≡ entry_after ⟦<TableKey as Ord>⟧.cmp key.now self.now.top.tables }
+        ensures nearest { option_map deref_pair result ≡ entry_after ⟦<TableKey as Ord>⟧.cmp key.now self.now.top.tables }
+        ensures ordered { IsTrue (is_sorted ⟦<TableKey as Ord>⟧.cmp self.now.top.tables) }
     {
         self.kept.inner.first.after(key)
     }
@@ -98,9 +100,36 @@ impl Rows {
         self.kept.inner.second.get(&place)
     }
 
+    /// The first row of the table whose primary key is at least the given one.
+    pub fn row_from(&self, key: &TableKey, primary: u64) -> Option<(u64, &PrimaryRow)>
+        ensures nearest { option_map (λ e. (e.0, e.1.now)) result ≡ entry_from nat_cmp primary (rows_of ⟦<TableKey as Ord>⟧.cmp key.now self.now.top.rows) }
+        ensures ordered { IsTrue (is_sorted nat_cmp (rows_of ⟦<TableKey as Ord>⟧.cmp key.now self.now.top.rows)) }
+    {
+        table_order();
+        let place = RowKey {
+            table: *key,
+            primary,
+        };
+        in_table(key, self.kept.inner.second.at_or_after(&place))
+    }
+
+    /// The first row of the table whose primary key is above the given one.
+    pub fn row_after(&self, key: &TableKey, primary: u64) -> Option<(u64, &PrimaryRow)>
+        ensures nearest { option_map (λ e. (e.0, e.1.now)) result ≡ entry_after nat_cmp primary (rows_of ⟦<TableKey as Ord>⟧.cmp key.now self.now.top.rows) }
+        ensures ordered { IsTrue (is_sorted nat_cmp (rows_of ⟦<TableKey as Ord>⟧.cmp key.now self.now.top.rows)) }
+    {
+        table_order();
+        let place = RowKey {
+            table: *key,
+            primary,
+        };
+        in_table(key, self.kept.inner.second.after(&place))
+    }
+
     /// The last row of the table whose primary key is below the given one.
     pub fn row_before(&self, key: &TableKey, primary: u64) -> Option<(u64, &PrimaryRow)>
-        ensures { option_map (λ e. (e.0, e.1.now)) result ≡ entry_before nat_cmp primary (rows_of ⟦<TableKey as Ord>⟧.cmp key.now self.now.top.rows) }
+        ensures nearest { option_map (λ e. (e.0, e.1.now)) result ≡ entry_before nat_cmp primary (rows_of ⟦<TableKey as Ord>⟧.cmp key.now self.now.top.rows) }
+        ensures ordered { IsTrue (is_sorted nat_cmp (rows_of ⟦<TableKey as Ord>⟧.cmp key.now self.now.top.rows)) }
     {
         table_order();
         let place = RowKey {
@@ -108,6 +137,27 @@ impl Rows {
             primary,
         };
         in_table(key, self.kept.inner.second.before(&place))
+    }
+
+    /// The last row of the table.
+    pub fn row_last(&self, key: &TableKey) -> Option<(u64, &PrimaryRow)>
+        ensures { option_map (λ e. (e.0, e.1.now)) result ≡ last_entry (rows_of ⟦<TableKey as Ord>⟧.cmp key.now self.now.top.rows) }
+    {
+        let Some(last) = self.row_from(key, u64::MAX) else {
+            return self.row_before(key, u64::MAX);
+        };
+        prove!(self.ends(key));
+        Some(last)
+    }
+
+    // That no row of the table comes after the greatest primary key that there is.
+    fn ends(&self, key: &TableKey) -> bool
+        ensures { (result ≡ true) × (entry_after nat_cmp 18446744073709551615 (rows_of ⟦<TableKey as Ord>⟧.cmp key.now self.now.top.rows) ≡ None) }
+    {
+        match self.row_after(key, u64::MAX) {
+            Some((primary, _)) => is_key(primary),
+            None => true,
+        }
     }
 
     /// Puts the row into the table.
@@ -122,18 +172,12 @@ impl Rows {
         ensures ok { OnOk result (self.new ≡ with_top (record { tables = self.old.top.tables; rows = changed ⟦<RowKey as Ord>⟧.cmp self.old.top.rows (record { table = key; primary = primary }) (Some row) }) self.old) }
         ensures err { OnErr result (self.new ≡ self.old) }
     {
+        let place = RowKey {
+            table: key,
+            primary,
+        };
         let parts = &mut self.kept.inner;
-        match parts.second.put(
-            alloc,
-            RowKey {
-                table: key,
-                primary,
-            },
-            row,
-        ) {
-            Ok(()) => Ok(()),
-            Err(refused) => Err(refused.1),
-        }
+        set_entry(alloc, &mut parts.second, place, Some(row))
     }
 
     /// Removes the row from the table, and says whether it was there.
@@ -168,41 +212,15 @@ impl Rows {
         ensures err { OnErr result (self.new ≡ self.old) }
     {
         let parts = &mut self.kept.inner;
-        match row {
-            Some(row) => match parts.first.put(alloc, key, row) {
-                Ok(()) => Ok(()),
-                Err(refused) => Err(refused.1),
-            },
-            None => match parts.first.remove(alloc, &key) {
-                Ok(_) => Ok(()),
-                Err(refused) => Err(refused),
-            },
-        }
+        set_entry(alloc, &mut parts.first, key, row)
     }
+}
 
-    /// The first row of the table whose primary key is at least the given one.
-    pub fn row_from(&self, key: &TableKey, primary: u64) -> Option<(u64, &PrimaryRow)>
-        ensures { option_map (λ e. (e.0, e.1.now)) result ≡ entry_from nat_cmp primary (rows_of ⟦<TableKey as Ord>⟧.cmp key.now self.now.top.rows) }
-    {
-        table_order();
-        let place = RowKey {
-            table: *key,
-            primary,
-        };
-        in_table(key, self.kept.inner.second.at_or_after(&place))
-    }
-
-    /// The first row of the table whose primary key is above the given one.
-    pub fn row_after(&self, key: &TableKey, primary: u64) -> Option<(u64, &PrimaryRow)>
-        ensures { option_map (λ e. (e.0, e.1.now)) result ≡ entry_after nat_cmp primary (rows_of ⟦<TableKey as Ord>⟧.cmp key.now self.now.top.rows) }
-    {
-        table_order();
-        let place = RowKey {
-            table: *key,
-            primary,
-        };
-        in_table(key, self.kept.inner.second.after(&place))
-    }
+// That a primary key fits 64 bits.
+fn is_key(primary: u64) -> bool
+    ensures { (result ≡ true) × (primary ≤ 18446744073709551615) }
+{
+    primary <= u64::MAX
 }
 
 // An entry as a row of the table, if it is one.
