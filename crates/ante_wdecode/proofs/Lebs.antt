@@ -4,20 +4,27 @@ use Rattle.std.proofs.lemmas.Bool.{ltb-false, ltb-true, lt-ltb, le-ltb}
 use Rattle.std.proofs.lemmas.Nat.{pow-add}
 use Rattle.ante_wdecode.specs.declared.integers.Misread.{Misread}
 use Rattle.ante_wdecode.specs.declared.integers.Misread.TheVariants.{Short, Leb}
-use Rattle.ante_wdecode.specs.Integers.{last_value, more_value, IsLeb, IsS32, IsCut, Reads, ◌>>=◌, ends_with, leb_at}
+use Rattle.ante_wdecode.specs.Integers.{last_value, more_value, IsLeb, IsS32, IsCut, Reads, ◌>>=◌, ends_with, leb_at, s32_at}
+use Rattle.ante_wdecode.specs.Faults.{IsMisspelled}
 
 abbrev pub done : {A : Type 0} → A → Result A Misread
 done x = Ok x
 
-bind_ok : {A B : Type 0} (r : Result A Misread) (f : A → Result B Misread) (y : B) → (r >>= f) ≡ Ok y → (x : A) × (r ≡ Ok x) × (f x ≡ Ok y)
+pub bind_ok : {A B E : Type 0} (r : Result A E) (f : A → Result B E) (y : B) → (r >>= f) ≡ Ok y → (x : A) × (r ≡ Ok x) × (f x ≡ Ok y)
 bind_ok (Ok x) f y e = (x, refl, e)
 bind_ok (Err d) f y e = absurd cc
 
-chosen : {A : Type 0} (b : Bool) (x y z : A) → cond b x y ≡ z → ((b ≡ true) × (x ≡ z)) ⊎ ((b ≡ false) × (y ≡ z))
+pub chosen : {A : Type 0} (b : Bool) (x y z : A) → cond b x y ≡ z → ((b ≡ true) × (x ≡ z)) ⊎ ((b ≡ false) × (y ≡ z))
 chosen true x y z h = inl (refl, h)
 chosen false x y z h = inr (refl, h)
 
-ok_is : {A : Type 0} (x y : A) → done x ≡ done y → x ≡ y
+abbrev pub good : {A E : Type 0} → A → Result A E
+good x = Ok x
+
+abbrev pub bad : {A E : Type 0} → E → Result A E
+bad e = Err e
+
+pub ok_is : {A E : Type 0} (x y : A) → good {E = E} x ≡ good y → x ≡ y
 ok_is x y e = cc
 
 ended : (o : Option ℕ) (rest : List ℕ) (x : ℕ × List ℕ) → ends_with o rest ≡ Ok x → (o ≡ Some x.0) × (rest ≡ x.1)
@@ -83,7 +90,7 @@ bind_err : {A B : Type 0} (r : Result A Misread) (g : A → B) (e : Misread) →
 bind_err (Ok x) g e h = absurd cc
 bind_err (Err d) g e h = let k : d ≡ e = cc in ap (λ (f : Misread). Err f) k
 
-cut_of : (signed : Bool) (bits : ℕ) (bytes : List ℕ) → 0 < bits → leb_at signed bits bytes ≡ Err Short → IsCut bits bytes
+pub cut_of : (signed : Bool) (bits : ℕ) (bytes : List ℕ) → 0 < bits → leb_at signed bits bytes ≡ Err Short → IsCut bits bytes
 cut_of signed bits [] some h = (some, tt)
 cut_of signed bits (b ∷ bytes) some h = ⊎_elim
     (λ p. absurd (never_short (last_value signed bits b) bytes p.1))
@@ -99,7 +106,7 @@ cut_of signed bits (b ∷ bytes) some h = ⊎_elim
     other : {A : Type 0} → let l : Result A Misread = Err Leb in l ≡ Err Short → ⊥
     other k = cc
 
-is_cut : (signed : Bool) (bits : ℕ) (bytes : List ℕ) → IsCut bits bytes → leb_at signed bits bytes ≡ Err Short
+pub is_cut : (signed : Bool) (bits : ℕ) (bytes : List ℕ) → IsCut bits bytes → leb_at signed bits bytes ≡ Err Short
 is_cut signed bits [] h = refl
 is_cut signed bits (b ∷ bytes) h =
     let lt : 7 < bits = omega (arith, h.0) in
@@ -140,3 +147,58 @@ reads_low bytes r h = record {
 pub low_is : (r : Result (ℕ × List ℕ) Misread) (x : ℕ × List ℕ) → low r ≡ Ok x → (y : ℕ × List ℕ) × (r ≡ Ok y) × (x ≡ (y.0 % 2 ^ 32, y.1))
 low_is (Ok y) x h = (y, refl, sym (ok_is (y.0 % 2 ^ 32, y.1) x h))
 low_is (Err e) x h = absurd cc
+
+pub low_leb : (r : Result (ℕ × List ℕ) Misread) → low r ≡ Err Leb → r ≡ Err Leb
+low_leb (Ok x) h = absurd cc
+low_leb (Err e) h = let k : e ≡ Leb = cc in ap (λ (f : Misread). Err f) k
+
+-- ---- where no integer begins
+
+abbrev wrong : Result (ℕ × List ℕ) Misread
+wrong = Err Leb
+
+pub misspelled : (signed : Bool) (bits : ℕ) (bytes : List ℕ) → leb_at signed bits bytes ≡ Err Leb → IsMisspelled signed bits bytes
+misspelled signed bits bytes h = (
+  λ n front rest i s. never n rest (sym h ∙ ap (leb_at signed bits) s ∙ leb_again signed bits n front rest i),
+  λ cut. other (sym h ∙ is_cut signed bits bytes cut),
+)
+  where
+    never : (n : ℕ) (rest : List ℕ) → wrong ≡ Ok (n, rest) → ⊥
+    never n rest k = cc
+
+    other : wrong ≡ Err Short → ⊥
+    other k = cc
+
+is_wrong : (signed : Bool) (bits : ℕ) (bytes : List ℕ) → 0 < bits → IsMisspelled signed bits bytes → leb_at signed bits bytes ≡ Err Leb
+is_wrong signed bits bytes some h = by_result (leb_at signed bits bytes) refl
+  where
+    by_result : (r : Result (ℕ × List ℕ) Misread) → leb_at signed bits bytes ≡ r → leb_at signed bits bytes ≡ Err Leb
+    by_result (Ok x) e = let f = leb_found signed bits bytes x e in absurd (h.0 x.0 f.0 x.1 f.1 f.2)
+    by_result (Err Short) e = absurd (h.1 (cut_of signed bits bytes some e))
+    by_result (Err Leb) e = e
+
+ends_wrong : (o : Option ℕ) (rest more : List ℕ) → ends_with o rest ≡ Err Leb → ends_with o more ≡ Err Leb
+ends_wrong None rest more h = refl
+ends_wrong (Some n) rest more h = absurd cc
+
+wrong_more : (signed : Bool) (bits : ℕ) (bytes more : List ℕ) → leb_at signed bits bytes ≡ Err Leb → leb_at signed bits (bytes ++ more) ≡ Err Leb
+wrong_more signed bits [] more h = absurd (other h)
+  where
+    other : bad {A = ℕ × List ℕ} Short ≡ Err Leb → ⊥
+    other k = cc
+wrong_more signed bits (b ∷ bytes) more h = ⊎_elim
+    (λ p. ap (λ t. cond t (ends_with (last_value signed bits b) (bytes ++ more)) (rest_of (bytes ++ more))) p.0 ∙ ends_wrong (last_value signed bits b) bytes (bytes ++ more) p.1)
+    (λ p. ap (λ t. cond t (ends_with (last_value signed bits b) (bytes ++ more)) (rest_of (bytes ++ more))) p.0 ∙ ⊎_elim
+    (λ q.
+    let e = bind_err (leb_at signed (bits - 7) bytes) (λ high. (more_value b high.0, high.1)) Leb q.1 in
+    ap (λ t. cond t (leb_at signed (bits - 7) (bytes ++ more) >>= λ high. done (more_value b high.0, high.1)) wrong) q.0
+    ∙ ap (λ r. r >>= λ high. done (more_value b high.0, high.1)) (wrong_more signed (bits - 7) bytes more e))
+    (λ q. ap (λ t. cond t (leb_at signed (bits - 7) (bytes ++ more) >>= λ high. done (more_value b high.0, high.1)) wrong) q.0)
+    (chosen (nat_lt 7 bits) _ wrong (Err Leb) p.1))
+    (chosen (nat_lt b 128) (ends_with (last_value signed bits b) bytes) _ (Err Leb) h)
+  where
+    rest_of : List ℕ → Result (ℕ × List ℕ) Misread
+    rest_of z = cond (nat_lt 7 bits) (leb_at signed (bits - 7) z >>= λ high. done (more_value b high.0, high.1)) wrong
+
+pub misspelled_more : (signed : Bool) (bits : ℕ) (bytes more : List ℕ) → 0 < bits → IsMisspelled signed bits bytes → IsMisspelled signed bits (bytes ++ more)
+misspelled_more signed bits bytes more some h = misspelled signed bits (bytes ++ more) (wrong_more signed bits bytes more (is_wrong signed bits bytes some h))

@@ -39,7 +39,7 @@ IsCut bits bytes = (7 * length bytes < bits) × AllByRecursion (λ b. 128 ≤ b)
 -- ---- what is read
 
 infixl 10 ◌>>=◌
-abbrev pub ◌>>=◌ : {A B : Type 0} → Result A Misread → (A → Result B Misread) → Result B Misread
+abbrev pub ◌>>=◌ : {A B E : Type 0} → Result A E → (A → Result B E) → Result B E
 (Ok x) >>= f = f x
 (Err e) >>= f = Err e
 

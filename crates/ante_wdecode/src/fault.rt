@@ -1,4 +1,5 @@
-ghost use Rattle.std.specs.Prelude.{◌≡◌, length};
+ghost use Rattle.std.specs.Prelude.{◌≡◌, ◌+◌, ◌<◌, ◌^◌, length};
+ghost use Rattle.ante_wdecode.specs.Rules.{misfit_of, answered, left_of, moved_as};
 ghost use Rattle.ante_wdecode.specs.declared.fault.Unread.TheVariants.{OutOfMemory};
 
 use std::alloc::{AllocError, AllocFailed};
@@ -26,11 +27,25 @@ pub enum DecodeKind {
     Limit,
 }
 
-/// Why a part of a module can't be read. The fault is at the item that begins with the last `left` bytes.
+/// Why a module can't be read. The place is the first byte of the item at fault.
+#[derive(Clone, Copy, PartialEq, Eq, Debug)]
+pub enum DecodeError {
+    OutOfMemory,
+    Fault { at: usize, kind: DecodeKind },
+}
+
+/// Why a part of a module can't be read. The item at fault begins with the last `left` bytes.
 #[derive(Clone, Copy, PartialEq, Eq, Debug)]
 pub enum Unread {
     OutOfMemory,
-    Fault { left: usize, kind: DecodeKind },
+    /// The bytes end within the item.
+    Ended {
+        left: usize,
+    },
+    Fault {
+        left: usize,
+        kind: DecodeKind,
+    },
 }
 
 impl From<AllocError> for Unread {
@@ -56,5 +71,44 @@ pub fn fault(bytes: &[u8], kind: DecodeKind) -> Unread
     Unread::Fault {
         left: bytes.len(),
         kind,
+    }
+}
+
+/// The bytes end within the item at their front.
+pub fn ended(bytes: &[u8]) -> Unread
+    ensures { result ≡ Unread.Ended (length bytes.now) }
+{
+    Unread::Ended { left: bytes.len() }
+}
+
+/// An item that doesn't fit its part: of a function at its place, and of a section at the section's number, before that
+/// many last bytes.
+pub fn misfit(section: Option<usize>, left: usize) -> Unread
+    ensures { result ≡ answered (misfit_of section left) }
+{
+    match section {
+        Some(whole) => Unread::Fault {
+            left: whole,
+            kind: DecodeKind::Section,
+        },
+        None => Unread::Fault {
+            left,
+            kind: DecodeKind::Form,
+        },
+    }
+}
+
+/// A fault within a part, after which so many more bytes stand.
+pub fn moved(section: Option<usize>, more: usize, why: Unread) -> Unread
+    requires { left_of why + more < 2 ^ 63 }
+    ensures { result ≡ moved_as section more why }
+{
+    match why {
+        Unread::OutOfMemory => Unread::OutOfMemory,
+        Unread::Ended { left } => misfit(section, left + more),
+        Unread::Fault { left, kind } => Unread::Fault {
+            left: left + more,
+            kind,
+        },
     }
 }
