@@ -60,7 +60,7 @@ exact_bodies m = exact_turn _ _ (exact_exactly (length m.functions)) λ n. exact
 whole_of : {A : Type 0} (rule : Rule A) (make : A → Section) → IsExact rule → IsWhole (in_turn rule (λ x. yields (make x)))
 whole_of rule make p = whole (in_turn rule (λ x. yields (make x))) (one_then rule make p)
 
-whole_contents : (m : Tree) (i : SectionId) → IsWhole (contents m i)
+pub whole_contents : (m : Tree) (i : SectionId) → IsWhole (contents m i)
 whole_contents m id.Custom = whole_custom
 whole_contents m id.Types = whole_of (vector 1024 func_type) _ (exact_vector 1024 func_type exact_func_type)
 whole_contents m id.Imports = whole_of (vector 8192 import) _ (exact_vector 8192 import exact_import)
@@ -156,17 +156,17 @@ size_fault bytes f h = ⊎_elim
     leb : At (length bytes) kind.Leb ≡ f → Top (At (length bytes) kind.Leb) bytes
     leb e = as_top f e (exact_u32.placed bytes f h)
 
-contents_fault : (i : SectionId) (n whole : ℕ) (m : Tree) (all before size bytes : List ℕ) (f : Fault) → whole ≡ length all → all ≡ (before ++ size) ++ bytes → IsU32 size n →
-    (numbered i (filling (misfit_of (Some whole)) n (contents m i))).read bytes ≡ Err f → Top f all
-contents_fault i n whole m all before size bytes f w split u h = ⊎_elim
-    (λ e. by_part (part_fails (misfit_of (Some whole)) n (contents m i) (whole_contents m i) bytes f e))
+contents_fault : (i : SectionId) (n place : ℕ) (m : Tree) (all before size bytes : List ℕ) (f : Fault) → place ≡ length all → all ≡ (before ++ size) ++ bytes → IsU32 size n →
+    (numbered i (filling (misfit_of (Some place)) n (contents m i))).read bytes ≡ Err f → Top f all
+contents_fault i n place m all before size bytes f w split u h = ⊎_elim
+    (λ e. by_part (part_fails (misfit_of (Some place)) n (contents m i) (whole_contents m i) bytes f e))
     (λ e. absurd (never e.0.0 e.0.1 e.2))
-    (bind_err ((filling (misfit_of (Some whole)) n (contents m i)).read bytes) (λ s. ok (i, s.0) s.1) f h)
+    (bind_err ((filling (misfit_of (Some place)) n (contents m i)).read bytes) (λ s. ok {A = SectionId × Section} (i, s.0) s.1) f h)
   where
-    never : (s : Section) (rest : List ℕ) → ok (i, s) rest ≡ Err f → ⊥
+    never : (s : Section) (rest : List ℕ) → ok {A = SectionId × Section} (i, s) rest ≡ Err f → ⊥
     never s rest k = cc
 
-    by_part : ((f ≡ Ended (length bytes)) × (length bytes < n)) ⊎ (Sited f bytes ⊎ Misfits (misfit_of (Some whole)) bytes f) → Top f all
+    by_part : ((f ≡ Ended (length bytes)) × (length bytes < n)) ⊎ (Sited f bytes ⊎ Misfits (misfit_of (Some place)) bytes f) → Top f all
     by_part (inl e) = subst (λ z. Top z all) (sym e.0) (before ++ size, bytes, split, refl, inr (before, size, n, u, e.1, refl))
     by_part (inr (inl s)) = top_further f all (before ++ size) bytes split (sited_top f bytes s)
     by_part (inr (inr g)) = subst (λ z. Top z all) (sym (g.2 ∙ ap (λ k. At k kind.Section) w)) (front_top all)
@@ -224,6 +224,12 @@ sections_fault (suc n) last m (c ∷ cs) f le h = ⊎_elim
     top_further f (c ∷ cs) g.0 e.0.1 g.2 (sections_fault n (last_after last e.0.0.0) (with_section m e.0.0.1) e.0.1 f (omega (arith, le, section_shorter last m (c ∷ cs) e.0 e.1)) e.2))
     (bind_err ((section last m).read (c ∷ cs)) (next n last m) f h)
 
+-- one section further
+pub goes_on : (n last : ℕ) (m : Tree) (bytes : List ℕ) (x : (SectionId × Section) × List ℕ) (end : Result Tree Fault) → length bytes ≤ n → sections_at n last m bytes ≡ end → (section last m).read bytes ≡ Ok x → (k : ℕ) × (length x.1 ≤ k) × (next k last m x ≡ end)
+goes_on n last m [] x end le h e = absurd (omega (arith, section_shorter last m [] x e))
+goes_on zero last m (b ∷ bytes) x end le h e = absurd (omega (arith, le))
+goes_on (suc n) last m (b ∷ bytes) x end le h e = (n, omega (arith, le, section_shorter last m (b ∷ bytes) x e), sym (ap (λ r. r >>= next n last m) e) ∙ h)
+
 -- ---- magic and version
 
 abbrev headed : List ℕ → List ℕ → List ℕ × List ℕ → Result (List ℕ) Fault
@@ -277,14 +283,14 @@ header_fault text bytes f h = ⊎_elim
         both : true ≡ false → ⊥
         both k = cc
 
+    take_is : (x y : List ℕ) → length x ≡ 4 → take 4 (x ++ y) ≡ x
+    take_is x y len = take_at x y 4 len
+
     differs : (x : List ℕ × List ℕ) → (front : List ℕ) × ((length x.0 ≡ 4) × (front ≡ x.0)) × (bytes ≡ front ++ x.1) → bytes_eq x.0 text ≡ false → Differs text bytes
     differs x g t =
         let l = g.1 in
         let split : bytes ≡ x.0 ++ x.1 = g.2 ∙ ap (λ z. z ++ x.1) l.1 in
         (omega (arith, ap length split, length-append x.0 x.1, l.0), λ e. unequal x.0 t (sym (take_is x.0 x.1 l.0) ∙ ap (take 4) (sym split) ∙ e))
-
-    take_is : (x y : List ℕ) → length x ≡ 4 → take 4 (x ++ y) ≡ x
-    take_is x y len = take_at x y 4 len
 
 -- ---- modules
 
@@ -379,7 +385,7 @@ module_again code m h =
     ∙ ap (λ r. at_top r >>= paired) (parts_again code m s.0 s.1 s.2 s.3)
     ∙ ap (λ t. cond t (good m) (Err (At 0 kind.Form))) (eq-eqb (length m.functions) (length m.codes) h.bodies)
 
-pub Faulty : List ℕ → Fault → Type 0
+abbrev pub Faulty : List ℕ → Fault → Type 0
 Faulty code f = (left : ℕ) × (fault : DecodeKind) × (f ≡ At left fault) × HoldsAt left fault code
 
 top_fault : (code : List ℕ) (r : Result Tree Fault) (f : Fault) → parts_at code ≡ r → at_top r ≡ Err f → Faulty code f

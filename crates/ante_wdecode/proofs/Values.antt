@@ -9,12 +9,14 @@ use Rattle.ante_wtree.specs.declared.instructions.ValueKind.{ValueKind}
 use Rattle.ante_wtree.specs.Expressions.{Expression, Plain, Br, BrIf, BrTable, Return, Call, CallIndirect, MemoryGrow}
 use Rattle.ante_wdecode.specs.declared.fault.DecodeKind.{DecodeKind}
 use Rattle.ante_wdecode.specs.declared.fault.DecodeKind.TheVariants as kind
+use Rattle.ante_wdecode.specs.declared.fault.Unread.{Unread}
+use Rattle.ante_wdecode.specs.declared.fault.Unread.TheVariants as unread
 use Rattle.ante_wdecode.specs.declared.integers.Misread.{Misread}
 use Rattle.ante_wdecode.specs.declared.integers.Misread.TheVariants as misread
 use Rattle.ante_wdecode.specs.declared.opcodes.Lead.{Lead}
 use Rattle.ante_wdecode.specs.declared.opcodes.Lead.TheVariants as lead
 use Rattle.ante_wdecode.specs.Integers.{◌>>=◌, leb_at, u32_at, s32_at, s64_at}
-use Rattle.ante_wdecode.specs.Rules.{Fault, Ended, At, Read, Rule, yields, in_turn, nothing, only, among, one_of, form, byte, raw, items, moved, filled, filling, misfit_of, integer_at, u32, s32, s64, is_few, limited, exactly}
+use Rattle.ante_wdecode.specs.Rules.{Fault, Ended, At, Read, Rule, yields, in_turn, nothing, only, among, one_of, form, byte, raw, items, moved, filled, filling, misfit_of, integer_at, u32, s32, s64, is_few, limited, exactly, Fails, left_of}
 use Rattle.ante_wdecode.specs.Opcodes.{opcodes, is_between, is_float, no_opcode, opcode, no_kind, value_types, value_type}
 use Rattle.ante_wdecode.specs.Instructions.{memarg, vector, indexed_of, completes, block_types, block_type}
 use Rattle.ante_wdecode.specs.Faults.{Shows}
@@ -243,3 +245,16 @@ exact_part n rule p = record {
       (λ e. ⊎_elim (λ k. sited_placed f bytes k) (λ m. subst (λ z. Placed z bytes) (sym m.2) (ends_with m.0 bytes m.1)) e)
       (part_fails formless n rule p bytes f h);
 }
+
+-- ---- what the code keeps of it
+
+pub limited_within : (most : ℕ) (bytes : List ℕ) (n : ℕ) (rest : List ℕ) → (limited most).read bytes ≡ ok n rest → n ≤ most
+limited_within most bytes n rest h = let f = (exact_limited most).reads.found bytes (n, rest) h in f.1.0
+
+left_in : (left : ℕ) (bytes : List ℕ) (Holds : List ℕ → Type 0) → EndsWith left bytes Holds → left ≤ length bytes
+left_in left bytes Holds h = omega (arith, h.3, ap length h.2, length-append h.0 h.1)
+
+pub left_small : {A : Type 0} (rule : Rule A) → IsWhole rule → (why : Unread) (bytes : List ℕ) → Fails why (rule.read bytes) → left_of why ≤ length bytes
+left_small rule p unread.OutOfMemory bytes h = omega arith
+left_small rule p (unread.Ended left) bytes h = left_in left bytes (λ back. Unit {0}) (p.placed bytes (Ended left) h)
+left_small rule p (unread.Fault left fault) bytes h = left_in left bytes (Shows fault) (p.placed bytes (At left fault) h)
