@@ -1,5 +1,5 @@
 -- The locals and the bodies that were read so far, before those that are still to be read.
-use Rattle.std.proofs.Common.{◌≡◌, ℕ, zero, suc, ◌+◌, ◌-◌, ◌<◌, ◌≤◌, List, [], ◌∷◌, ◌++◌, length, drop, map, replicate, Result, Ok, Err, refl, sym, ap, subst, ◌∙◌, append-nil, arith}
+use Rattle.std.proofs.Common.{◌≡◌, ℕ, suc, ◌+◌, ◌-◌, ◌<◌, ◌≤◌, List, [], ◌∷◌, ◌++◌, map, replicate, sym, ap, ◌∙◌, append-nil, arith}
 use Rattle.std.specs.Prelude.{slice_get}
 use Rattle.std.proofs.lemmas.List.{map-append}
 use Rattle.ante_wtree.specs.declared.instructions.ValueKind.{ValueKind}
@@ -8,7 +8,7 @@ use Rattle.ante_wtree.specs.declared.modules.Code.{Code}
 use Rattle.ante_wtree.specs.Trees.{Body, body_of}
 use Rattle.ante_wdecode.specs.declared.fault.Unread.{Unread}
 use Rattle.ante_wdecode.specs.Integers.{◌>>=◌}
-use Rattle.ante_wdecode.specs.Rules.{Fault, Read, Fails, limited}
+use Rattle.ante_wdecode.specs.Rules.{Read, Fails, limited}
 use Rattle.ante_wdecode.specs.Opcodes.{value_type}
 use Rattle.ante_wdecode.specs.Modules.{groups, code, params_of, codes}
 use Rattle.ante_wdecode.proofs.Laws.{ok}

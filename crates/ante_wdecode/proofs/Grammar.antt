@@ -1,5 +1,5 @@
 -- Sequences of instructions: what is read is spelled, what is spelled is read, and a fault is where it says.
-use Rattle.std.proofs.Common.{◌≡◌, ◌⊎◌, ℕ, zero, suc, ◌+◌, ◌<◌, Bool, true, false, cond, nat_eq, List, [], ◌∷◌, ◌++◌, length, Option, None, Some, Result, Ok, Err, refl, sym, ap, subst, ◌∙◌, append_assoc, append-nil, arith, inl, inr, ⊎_elim}
+use Rattle.std.proofs.Common.{◌≡◌, ℕ, zero, suc, ◌+◌, ◌<◌, Bool, true, false, nat_eq, List, [], ◌∷◌, ◌++◌, length, Option, None, Some, Result, Ok, Err, refl, sym, ap, subst, ◌∙◌, append_assoc, append-nil, arith, inl, inr, ⊎_elim}
 use Rattle.std.proofs.lemmas.Bool.{eqb-true}
 use Rattle.std.proofs.lemmas.List.{length-append}
 use Rattle.ante_wtree.specs.declared.instructions.ValueKind.{ValueKind}
@@ -10,12 +10,12 @@ use Rattle.ante_wdecode.specs.declared.fault.DecodeKind.TheVariants as kind
 use Rattle.ante_wdecode.specs.declared.opcodes.Lead.{Lead}
 use Rattle.ante_wdecode.specs.declared.opcodes.Lead.TheVariants as lead
 use Rattle.ante_wdecode.specs.Integers.{◌>>=◌}
-use Rattle.ante_wdecode.specs.Rules.{Fault, Ended, At, Read, among, or_fault}
-use Rattle.ante_wdecode.specs.Opcodes.{opcodes, Leads, opcode, no_opcode}
-use Rattle.ante_wdecode.specs.Instructions.{Before, completes, single, IsSingle, indexed_of, kind_byte, block_types, block_type, Spells, IsExpression}
+use Rattle.ante_wdecode.specs.Rules.{Fault, Ended, At, Read, among}
+use Rattle.ante_wdecode.specs.Opcodes.{Leads, opcode}
+use Rattle.ante_wdecode.specs.Instructions.{Before, completes, IsSingle, indexed_of, kind_byte, block_types, block_type, Spells, IsExpression}
 use Rattle.ante_wdecode.specs.Reading.{Sequence, Item, Ends, One, closed, body_at, block_of, block_at, second_at, if_at, deeper, one, led_at, item_at, go_on, inside, seq_at, expression}
 use Rattle.ante_wdecode.proofs.Lebs.{bind_ok, chosen, ok_is}
-use Rattle.ante_wdecode.proofs.Laws.{Placed, IsRead, IsExact, bind_err, err_is, further, at_front, ended_here}
+use Rattle.ante_wdecode.proofs.Laws.{Placed, IsExact, bind_err, err_is, further}
 use Rattle.ante_wdecode.proofs.Values.{exact_opcode, exact_block_type, exact_completes}
 
 abbrev pub Make : Type 0

@@ -1,14 +1,14 @@
 -- Rules are exact: what is read is spelled, what is spelled is read, and a fault is where it says.
-use Rattle.std.proofs.Common.{◌≡◌, ◌⊎◌, ℕ, zero, suc, ◌+◌, ◌<◌, ◌≤◌, Bool, true, false, cond, nat_eq, nat_lt, List, [], ◌∷◌, ◌++◌, length, take, drop, Option, None, Some, Result, Ok, Err, refl, sym, ap, subst, ◌∙◌, append_assoc, append-nil, arith, inl, inr, ⊎_elim}
+use Rattle.std.proofs.Common.{◌≡◌, ◌⊎◌, ℕ, zero, suc, ◌≤◌, Bool, false, cond, nat_lt, List, [], ◌∷◌, ◌++◌, length, take, drop, Option, None, Some, Result, Ok, Err, refl, sym, ap, subst, ◌∙◌, append_assoc, append-nil, arith, inl, inr, ⊎_elim}
 use Rattle.std.specs.Bool.{Decides}
-use Rattle.std.proofs.lemmas.Bool.{ltb-true, ltb-false, lt-ltb, le-ltb, eqb-true, eq-eqb}
-use Rattle.std.proofs.lemmas.List.{length-append, length-take, length-drop, take-append-drop, take_at, drop_at}
+use Rattle.std.proofs.lemmas.Bool.{ltb-false, le-ltb}
+use Rattle.std.proofs.lemmas.List.{length-append, length-take, take-append-drop, take_at, drop_at}
 use Rattle.ante_wdecode.specs.declared.fault.DecodeKind.{DecodeKind}
 use Rattle.ante_wdecode.specs.declared.fault.DecodeKind.TheVariants as kind
 use Rattle.ante_wdecode.specs.Integers.{◌>>=◌}
-use Rattle.ante_wdecode.specs.Rules.{Fault, Ended, At, Read, Rule, yields, in_turn, nothing, only, among, or_fault, one_at, one_of, form, byte, raw, AreItems, items_at, items, moved, filled, filling}
+use Rattle.ante_wdecode.specs.Rules.{Fault, Ended, At, Read, Rule, yields, in_turn, nothing, only, among, or_fault, one_at, one_of, form, raw, AreItems, items_at, items}
 use Rattle.ante_wdecode.specs.Faults.{Shows}
-use Rattle.ante_wdecode.proofs.Lebs.{bind_ok, chosen, good, bad, ok_is}
+use Rattle.ante_wdecode.proofs.Lebs.{bind_ok, chosen, bad, ok_is}
 
 abbrev pub ok : {A : Type 0} → A → List ℕ → Read A
 ok a rest = Ok (a, rest)

@@ -1,10 +1,10 @@
 -- What is read is spelled so, what is spelled so is read, and why nothing is.
-use Rattle.std.proofs.Common.{◌≡◌, ◌⊎◌, ℕ, ◌+◌, ◌-◌, ◌*◌, ◌%◌, ◌^◌, ◌<◌, ◌≤◌, Bool, true, false, cond, nat_lt, List, [], ◌∷◌, ◌++◌, Option, None, Some, Result, Ok, Err, IfOk, refl, sym, ap, ◌∙◌, arith, inl, inr, ⊎_elim}
+use Rattle.std.proofs.Common.{◌≡◌, ◌⊎◌, ℕ, ◌+◌, ◌-◌, ◌*◌, ◌%◌, ◌^◌, ◌<◌, ◌≤◌, Bool, true, false, cond, nat_lt, List, [], ◌∷◌, ◌++◌, Option, None, Some, Result, Ok, Err, refl, sym, ap, ◌∙◌, arith, inl, inr, ⊎_elim}
 use Rattle.std.proofs.lemmas.Bool.{ltb-false, ltb-true, lt-ltb, le-ltb}
 use Rattle.std.proofs.lemmas.Nat.{pow-add}
 use Rattle.ante_wdecode.specs.declared.integers.Misread.{Misread}
 use Rattle.ante_wdecode.specs.declared.integers.Misread.TheVariants.{Short, Leb}
-use Rattle.ante_wdecode.specs.Integers.{last_value, more_value, IsLeb, IsS32, IsCut, Reads, ◌>>=◌, ends_with, leb_at, s32_at}
+use Rattle.ante_wdecode.specs.Integers.{last_value, more_value, IsLeb, IsCut, ◌>>=◌, ends_with, leb_at}
 use Rattle.ante_wdecode.specs.Faults.{IsMisspelled}
 
 abbrev pub done : {A : Type 0} → A → Result A Misread
@@ -113,36 +113,10 @@ is_cut signed bits (b ∷ bytes) h =
     let c : IsCut (bits - 7) bytes = (omega (arith, h.0), h.1.1) in
     rw (le-ltb b 128 h.1.0, lt-ltb 7 bits lt, is_cut signed (bits - 7) bytes c) refl
 
--- ---- what the calls answer
-
-if_found : (signed : Bool) (bits : ℕ) (bytes : List ℕ) (r : Result (ℕ × List ℕ) Misread) → leb_at signed bits bytes ≡ r → IfOk r (λ x. (front : List ℕ) × IsLeb signed bits front x.0 × (bytes ≡ front ++ x.1))
-if_found signed bits bytes (Ok x) h = leb_found signed bits bytes x h
-if_found signed bits bytes (Err e) h = tt
-
-pub reads_leb : (signed : Bool) (bits : ℕ) (bytes : List ℕ) (r : Result (ℕ × List ℕ) Misread) → 0 < bits → r ≡ leb_at signed bits bytes → Reads (IsLeb signed bits) bits bytes r
-reads_leb signed bits bytes r some h = record {
-  found = if_found signed bits bytes r (sym h);
-  only = λ n front rest i e. h ∙ ap (leb_at signed bits) e ∙ leb_again signed bits n front rest i;
-  short = (λ k. cut_of signed bits bytes some (sym h ∙ k), λ cut. h ∙ is_cut signed bits bytes cut);
-}
+-- ---- an integer of 32 bits
 
 abbrev pub low : Result (ℕ × List ℕ) Misread → Result (ℕ × List ℕ) Misread
 low r = r >>= λ x. Ok (x.0 % 2 ^ 32, x.1)
-
-low_found : (bytes : List ℕ) (r : Result (ℕ × List ℕ) Misread) → IfOk r (λ x. (front : List ℕ) × IsLeb true 32 front x.0 × (bytes ≡ front ++ x.1)) → IfOk (low r) (λ x. (front : List ℕ) × IsS32 front x.0 × (bytes ≡ front ++ x.1))
-low_found bytes (Ok x) h = (h.0, (x.0, h.1, refl), h.2)
-low_found bytes (Err e) h = tt
-
-low_short : (r : Result (ℕ × List ℕ) Misread) → low r ≡ Err Short → r ≡ Err Short
-low_short (Ok x) h = absurd cc
-low_short (Err e) h = h
-
-pub reads_low : (bytes : List ℕ) (r : Result (ℕ × List ℕ) Misread) → Reads (IsLeb true 32) 32 bytes r → Reads IsS32 32 bytes (low r)
-reads_low bytes r h = record {
-  found = low_found bytes r h.found;
-  only = λ n front rest i e. ap low (h.only i.0 front rest i.1 e) ∙ ap (λ m. done (m, rest)) (sym i.2);
-  short = (λ k. h.short.0 (low_short r k), λ cut. ap low (h.short.1 cut));
-}
 
 pub low_is : (r : Result (ℕ × List ℕ) Misread) (x : ℕ × List ℕ) → low r ≡ Ok x → (y : ℕ × List ℕ) × (r ≡ Ok y) × (x ≡ (y.0 % 2 ^ 32, y.1))
 low_is (Ok y) x h = (y, refl, sym (ok_is (y.0 % 2 ^ 32, y.1) x h))

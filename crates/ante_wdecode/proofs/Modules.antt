@@ -4,18 +4,14 @@ use Rattle.std.specs.Bool.{Decides}
 use Rattle.std.specs.Prelude.{IsUtf8, slice_get}
 use Rattle.std.specs.Str.{is_utf8}
 use Rattle.std.proofs.lemmas.Str.{IsUtf8-from_is_utf8, is_utf8-from_IsUtf8}
-use Rattle.ante_wtree.specs.declared.instructions.ValueKind.{ValueKind}
 use Rattle.ante_wtree.specs.declared.modules.FuncType.{FuncType}
 use Rattle.ante_wtree.specs.declared.modules.ExportKind.{ExportKind}
 use Rattle.ante_wtree.specs.declared.modules.ExportKind.TheVariants as external
-use Rattle.ante_wtree.specs.declared.modules.ImportKind.TheVariants as import_kind
-use Rattle.ante_wtree.specs.declared.modules.Init.TheVariants as init
 use Rattle.ante_wdecode.specs.declared.fault.DecodeKind.TheVariants as kind
 use Rattle.ante_wdecode.specs.declared.opcodes.Lead.{Lead}
 use Rattle.ante_wdecode.specs.declared.opcodes.Lead.TheVariants as lead
-use Rattle.ante_wdecode.specs.declared.opcodes.Indexed.{Indexed}
 use Rattle.ante_wdecode.specs.declared.opcodes.Indexed.TheVariants as indexed
-use Rattle.ante_wdecode.specs.Rules.{Rule, yields, in_turn, only, byte, raw, filling, misfit_of, u32, s32, s64, limited, exactly}
+use Rattle.ante_wdecode.specs.Rules.{only, byte, raw, u32, s32, s64, limited, exactly}
 use Rattle.ante_wdecode.specs.Opcodes.{opcode, value_type}
 use Rattle.ante_wdecode.specs.Instructions.{vector}
 use Rattle.ante_wdecode.specs.Reading.{expression}

@@ -1,7 +1,7 @@
 -- Sections and modules: what is read is encoded, what is encoded is read, and a fault says what holds at its place.
-use Rattle.std.proofs.Common.{◌≡◌, ◌⊎◌, ℕ, zero, suc, ◌+◌, ◌-◌, ◌<◌, ◌≤◌, Bool, true, false, cond, nat_eq, nat_lt, List, [], ◌∷◌, ◌++◌, length, take, Option, None, Some, Result, Ok, Err, refl, sym, ap, subst, ◌∙◌, append_assoc, append-nil, arith, inl, inr, ⊎_elim}
+use Rattle.std.proofs.Common.{◌≡◌, ◌⊎◌, ℕ, zero, suc, ◌-◌, ◌<◌, ◌≤◌, true, false, cond, nat_eq, nat_lt, List, [], ◌∷◌, ◌++◌, length, take, Some, Result, Ok, Err, refl, sym, ap, subst, ◌∙◌, append_assoc, append-nil, arith, inl, inr, ⊎_elim}
 use Rattle.std.specs.Prelude.{bytes_eq}
-use Rattle.std.proofs.lemmas.Bool.{ltb-true, ltb-false, lt-ltb, le-ltb, eqb-true, eq-eqb}
+use Rattle.std.proofs.lemmas.Bool.{ltb-true, ltb-false, le-ltb, eqb-true, eq-eqb}
 use Rattle.std.proofs.lemmas.List.{length-append, take_at}
 use Rattle.std.proofs.lemmas.Slice.Eq.{bytes_eq-Decides}
 use Rattle.ante_wtree.specs.Trees.{Tree}
@@ -11,14 +11,14 @@ use Rattle.ante_wdecode.specs.declared.fault.DecodeError.TheVariants as error
 use Rattle.ante_wdecode.specs.declared.sections.SectionId.{SectionId}
 use Rattle.ante_wdecode.specs.declared.sections.SectionId.TheVariants as id
 use Rattle.ante_wdecode.specs.Integers.{◌>>=◌, IsU32, IsCut, u32_at}
-use Rattle.ante_wdecode.specs.Rules.{Fault, Ended, At, Read, Rule, yields, in_turn, only, or_fault, among, one_at, one_of, raw, filling, misfit_of, integer_at, u32}
+use Rattle.ante_wdecode.specs.Rules.{Fault, Ended, At, Read, Rule, yields, in_turn, or_fault, among, one_of, raw, filling, misfit_of, u32}
 use Rattle.ante_wdecode.specs.Faults.{Shows}
 use Rattle.ante_wdecode.specs.Instructions.{vector}
-use Rattle.ante_wdecode.specs.Modules.{any, name, func_type, limits, table_type, sized_type, import, global, export, element, segment, codes}
+use Rattle.ante_wdecode.specs.Modules.{any, name, func_type, limits, table_type, import, global, export, element, segment}
 use Rattle.ante_wdecode.specs.Sections.{Section, Custom, bare, with_section, imported, passed, custom, bodies, contents, section_ids, follows, last_after, no_section, section_id, numbered, section_within, section, AreSections, magic, version, Encodes}
 use Rattle.ante_wdecode.specs.Decoding.{header_at, sections_at, at_top, paired, parts_at, module_at, Differs, IsUnfilled, Holds, Blames, IsFirst}
 use Rattle.ante_wdecode.proofs.Lebs.{bind_ok, chosen, good, bad, ok_is, cut_of}
-use Rattle.ante_wdecode.proofs.Laws.{ok, EndsWith, Placed, IsRead, IsExact, IsWhole, bind_err, err_is, whole, joined, at_front, none_of, exact_yields, exact_turn, reads_turn, exact_only, exact_one, exact_raw}
+use Rattle.ante_wdecode.proofs.Laws.{ok, EndsWith, Placed, IsRead, IsExact, IsWhole, bind_err, err_is, whole, joined, none_of, exact_yields, exact_turn, reads_turn, exact_only, exact_one, exact_raw}
 use Rattle.ante_wdecode.proofs.Values.{exact_u32, exact_exactly, exact_vector, one_then, Sited, Misfits, reads_part, part_fails, integer_fails}
 use Rattle.ante_wdecode.proofs.Modules.{exact_name, exact_func_type, exact_sized_type, exact_import, exact_global, exact_export, exact_element, exact_segment, exact_codes}
 

@@ -1,12 +1,10 @@
 -- The rules of integers and bytes, of parts, and of instructions without bodies are exact.
-use Rattle.std.proofs.Common.{◌≡◌, ◌⊎◌, ℕ, ◌+◌, ◌-◌, ◌<◌, ◌≤◌, Bool, true, false, ◌||◌, cond, nat_eq, nat_lt, List, [], ◌∷◌, ◌++◌, length, take, drop, Option, None, Some, Result, Ok, Err, refl, sym, ap, subst, ◌∙◌, append_assoc, append-nil, arith, inl, inr, ⊎_elim}
+use Rattle.std.proofs.Common.{◌≡◌, ◌⊎◌, ℕ, ◌+◌, ◌-◌, ◌<◌, ◌≤◌, Bool, true, false, ◌||◌, cond, nat_eq, nat_lt, List, [], ◌∷◌, ◌++◌, length, take, drop, None, Result, Ok, Err, refl, sym, ap, subst, ◌∙◌, append_assoc, arith, inl, inr, ⊎_elim}
 use Rattle.std.specs.Bool.{Decides}
-use Rattle.std.proofs.lemmas.Bool.{ltb-true, ltb-false, lt-ltb, le-ltb, eqb-true, eq-eqb}
+use Rattle.std.proofs.lemmas.Bool.{ltb-true, ltb-false, le-ltb, eqb-true, eq-eqb}
 use Rattle.std.proofs.lemmas.List.{length-append, length-take, length-drop, take-append-drop, take_at, drop_at}
-use Rattle.ante_wtree.specs.declared.instructions.MemArg.{MemArg}
 use Rattle.ante_wtree.specs.declared.instructions.PlainInstr.TheVariants as plain
-use Rattle.ante_wtree.specs.declared.instructions.ValueKind.{ValueKind}
-use Rattle.ante_wtree.specs.Expressions.{Expression, Plain, Br, BrIf, BrTable, Return, Call, CallIndirect, MemoryGrow}
+use Rattle.ante_wtree.specs.Expressions.{Plain, Br, BrIf, BrTable, Return, Call, CallIndirect, MemoryGrow}
 use Rattle.ante_wdecode.specs.declared.fault.DecodeKind.{DecodeKind}
 use Rattle.ante_wdecode.specs.declared.fault.DecodeKind.TheVariants as kind
 use Rattle.ante_wdecode.specs.declared.fault.Unread.{Unread}
@@ -15,8 +13,8 @@ use Rattle.ante_wdecode.specs.declared.integers.Misread.{Misread}
 use Rattle.ante_wdecode.specs.declared.integers.Misread.TheVariants as misread
 use Rattle.ante_wdecode.specs.declared.opcodes.Lead.{Lead}
 use Rattle.ante_wdecode.specs.declared.opcodes.Lead.TheVariants as lead
-use Rattle.ante_wdecode.specs.Integers.{◌>>=◌, leb_at, u32_at, s32_at, s64_at}
-use Rattle.ante_wdecode.specs.Rules.{Fault, Ended, At, Read, Rule, yields, in_turn, nothing, only, among, one_of, form, byte, raw, items, moved, filled, filling, misfit_of, integer_at, u32, s32, s64, is_few, limited, exactly, Fails, left_of}
+use Rattle.ante_wdecode.specs.Integers.{leb_at, u32_at, s32_at, s64_at}
+use Rattle.ante_wdecode.specs.Rules.{Fault, Ended, At, Read, Rule, yields, in_turn, among, one_of, byte, items, moved, filled, filling, misfit_of, integer_at, u32, s32, s64, is_few, limited, exactly, Fails, left_of}
 use Rattle.ante_wdecode.specs.Opcodes.{opcodes, is_between, is_float, no_opcode, opcode, no_kind, value_types, value_type}
 use Rattle.ante_wdecode.specs.Instructions.{memarg, vector, indexed_of, completes, block_types, block_type}
 use Rattle.ante_wdecode.specs.Faults.{Shows}

@@ -1,8 +1,8 @@
 -- What holds of the bytes at the place of a fault.
-use Rattle.std.specs.Prelude.{◌≡◌, ◌⊎◌, ℕ, ◌<◌, Bool, true, false, ◌||◌, List, [], ◌∷◌, ◌++◌, length, None, take}
+use Rattle.std.specs.Prelude.{◌≡◌, ◌⊎◌, ℕ, Bool, true, false, ◌||◌, List, [], ◌∷◌, ◌++◌, None}
 use Rattle.ante_wdecode.specs.declared.fault.DecodeKind.{DecodeKind}
 use Rattle.ante_wdecode.specs.declared.fault.DecodeKind.TheVariants as kind
-use Rattle.ante_wdecode.specs.Integers.{IsLeb, IsU32, IsCut}
+use Rattle.ante_wdecode.specs.Integers.{IsLeb, IsCut}
 use Rattle.ante_wdecode.specs.Rules.{among}
 use Rattle.ante_wdecode.specs.Opcodes.{opcodes, is_between, is_float}
 

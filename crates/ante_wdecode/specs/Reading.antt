@@ -1,5 +1,5 @@
 -- What is read of instructions with bodies, at the front of some bytes.
-use Rattle.std.specs.Prelude.{◌≡◌, ℕ, zero, suc, ◌+◌, Bool, true, false, List, [], ◌∷◌, ◌++◌, length, Option, None, Some, Result, Ok, Err, if◌then◌else◌}
+use Rattle.std.specs.Prelude.{ℕ, zero, suc, ◌+◌, Bool, true, false, List, length, Option, Result, Ok, Err, if◌then◌else◌}
 use Rattle.ante_wtree.specs.declared.instructions.ValueKind.{ValueKind}
 use Rattle.ante_wtree.specs.Expressions.{Expression, put, Over, Block, Loop, If}
 use Rattle.ante_wdecode.specs.declared.opcodes.Lead.{Lead}

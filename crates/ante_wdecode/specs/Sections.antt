@@ -1,5 +1,5 @@
 -- Sections and modules (section 5.5).
-use Rattle.std.specs.Prelude.{◌≡◌, ℕ, zero, suc, ◌+◌, ◌-◌, ◌<◌, ◌≤◌, Bool, true, false, List, [], ◌∷◌, ◌++◌, length, Option, None, Some, Result, Ok, Err, nat_eq, nat_lt, bytes_eq, map, if◌then◌else◌}
+use Rattle.std.specs.Prelude.{◌≡◌, ℕ, ◌+◌, ◌-◌, ◌≤◌, Bool, true, false, List, [], ◌∷◌, ◌++◌, length, Option, None, Some, Ok, Err, nat_lt, map, if◌then◌else◌}
 use Rattle.ante_wtree.specs.declared.modules.FuncType.{FuncType}
 use Rattle.ante_wtree.specs.declared.modules.Limits.{Limits}
 use Rattle.ante_wtree.specs.declared.modules.ImportKind.{ImportKind}
@@ -9,7 +9,6 @@ use Rattle.ante_wtree.specs.declared.modules.Global.{Global}
 use Rattle.ante_wtree.specs.declared.modules.Export.{Export}
 use Rattle.ante_wtree.specs.declared.modules.Element.{Element}
 use Rattle.ante_wtree.specs.declared.modules.Segment.{Segment}
-use Rattle.ante_wtree.specs.declared.modules.Module.{Module}
 use Rattle.ante_wtree.specs.Trees.{Body, Tree, body_of}
 use Rattle.ante_wdecode.specs.declared.fault.DecodeKind.{DecodeKind}
 use Rattle.ante_wdecode.specs.declared.fault.DecodeKind.TheVariants as kind
@@ -17,7 +16,7 @@ use Rattle.ante_wdecode.specs.declared.sections.SectionId.{SectionId}
 use Rattle.ante_wdecode.specs.declared.sections.SectionId.TheVariants as id
 use Rattle.ante_wdecode.specs.declared.sections.Contents.{Contents}
 use Rattle.ante_wdecode.specs.declared.sections.Contents.TheVariants as made
-use Rattle.ante_wdecode.specs.Rules.{Fault, At, Ended, Read, Rule, yields, only, one_of, filling, misfit_of, u32, exactly}
+use Rattle.ante_wdecode.specs.Rules.{Fault, Read, Rule, yields, only, one_of, filling, misfit_of, u32, exactly}
 use Rattle.ante_wdecode.specs.Turns.{◌>>=◌}
 use Rattle.ante_wdecode.specs.Instructions.{vector}
 use Rattle.ante_wdecode.specs.Modules.{any, name, func_type, limits, table_type, import, global, export, element, segment, codes}

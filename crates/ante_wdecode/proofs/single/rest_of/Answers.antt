@@ -1,7 +1,6 @@
 use Rattle.std.proofs.Common.{sym, ap, ◌∙◌}
-use Rattle.ante_wtree.specs.Expressions.{put, Plain}
+use Rattle.ante_wtree.specs.Expressions.{Plain}
 use Rattle.ante_wdecode.specs.Integers.{◌>>=◌}
-use Rattle.ante_wdecode.specs.Rules.{u32}
 use Rattle.ante_wdecode.specs.Instructions.{indexed_of, completes}
 use Rattle.ante_wdecode.proofs.Laws.{ok}
 use Rattle.ante_wdecode.proofs.single.rest_of.Goals as goal
