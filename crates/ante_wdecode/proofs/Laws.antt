@@ -147,9 +147,12 @@ only_placed {A} Has test fault rule p shows bytes f h = ⊎_elim
 
 pub exact_only : {A : Type 0} (Has : A → Type 0) (test : A → Bool) (fault : DecodeKind) (rule : Rule A) → IsExact rule → ((a : A) → Decides (test a) (Has a)) → ((bytes : List ℕ) → Shows fault bytes) → IsExact (only Has test fault rule)
 exact_only {A} Has test fault rule p tells shows = record {
-  reads = record { again = λ a front rest h.
-      ap (λ r. r >>= λ x. cond (test x.0) (Ok x) (Err (At (length (front ++ rest)) fault))) (p.reads.again a front rest h.1)
-      ∙ ap (λ b. cond b (ok a rest) (Err (At (length (front ++ rest)) fault))) ((tells a).1 h.0); found = only_found Has test fault rule p tells };
+  reads = record {
+    again = λ a front rest h.
+        ap (λ r. r >>= λ x. cond (test x.0) (Ok x) (Err (At (length (front ++ rest)) fault))) (p.reads.again a front rest h.1)
+        ∙ ap (λ b. cond b (ok a rest) (Err (At (length (front ++ rest)) fault))) ((tells a).1 h.0);
+    found = only_found Has test fault rule p tells;
+  };
   placed = only_placed Has test fault rule p shows;
 }
 
@@ -182,9 +185,12 @@ one_placed {A} fault table shows (b ∷ bytes) f h = ⊎_elim
 
 pub exact_one : {A : Type 0} (fault : ℕ → DecodeKind) (table : List (ℕ × A)) → ((b : ℕ) (bytes : List ℕ) → among table b ≡ None → Shows (fault b) (b ∷ bytes)) → IsExact (one_of fault table)
 exact_one fault table shows = record {
-  reads = record { again = λ a front rest h.
-      ap (λ (z : List ℕ). one_at fault table (z ++ rest)) h.2
-      ∙ ap (λ o. or_fault o (At (length (h.0 ∷ rest)) (fault h.0)) >>= λ a. ok a rest) h.1; found = one_found fault table };
+  reads = record {
+    again = λ a front rest h.
+        ap (λ (z : List ℕ). one_at fault table (z ++ rest)) h.2
+        ∙ ap (λ o. or_fault o (At (length (h.0 ∷ rest)) (fault h.0)) >>= λ a. ok a rest) h.1;
+    found = one_found fault table;
+  };
   placed = one_placed fault table shows;
 }
 

@@ -195,6 +195,7 @@ section_within misfit last m = do
   size ← u32
   numbered i (filling misfit size (contents m i))
 
+-- A misfit of the contents stands at the section's number; the spelling doesn't speak of it.
 abbrev pub section : ℕ → Tree → Rule (SectionId × Section)
 section last m = record {
   Spells = (section_within (misfit_of (Some 0)) last m).Spells;

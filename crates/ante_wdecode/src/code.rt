@@ -12,6 +12,7 @@ use ante_wtree::{Code, FuncType, ValueKind};
 use std::alloc::{AllocError, Global};
 
 const MOST_NESTED: u32 = 1024;
+
 const MOST_LOCALS: u32 = 4096;
 
 fn push_locals(
@@ -58,12 +59,7 @@ fn read_func(alloc: Global, most: u32, bytes: &[u8]) -> Result<(Code, &[u8]), Un
     Ok((Code { locals, body }, rest))
 }
 
-fn read_part(
-    alloc: Global,
-    most: u32,
-    size: u32,
-    bytes: &[u8],
-) -> Result<(Code, &[u8]), Unread>
+fn read_part(alloc: Global, most: u32, size: u32, bytes: &[u8]) -> Result<(Code, &[u8]), Unread>
     ensures { Gives (λ x. (body_of x.0, x.1.now)) result ((filling (misfit_of None) size (func most)).read bytes.now) }
 {
     let size = size as usize;

@@ -9,7 +9,7 @@ use std::alloc::{AllocError, AllocFailed};
 pub enum DecodeKind {
     /// Not the magic or the version.
     Magic,
-    /// An unknown, repeated or misplaced section, or one whose contents don't end at its length.
+    /// An unknown, repeated or misplaced section, or one whose contents don't end at its size.
     Section,
     /// An integer of too many bytes, or with bits that its width doesn't have.
     Leb,
@@ -21,13 +21,14 @@ pub enum DecodeKind {
     Utf8,
     /// Another byte that the grammar doesn't have in its place, or counts that differ.
     Form,
-    /// The bytes end within an item.
+    /// Fewer bytes than the magic, the version, a section's size or its contents take.
     Short,
     /// More than the profile allows.
     Limit,
 }
 
-/// Why a module can't be read. The place is the first byte of the item at fault.
+/// Why a module can't be read: the first fault, at the first byte of its item. An item that goes past its section's end is
+/// at fault as `Section`, at the section's number, and one that goes past its body's end as `Form`, where it begins.
 #[derive(Clone, Copy, PartialEq, Eq, Debug)]
 pub enum DecodeError {
     OutOfMemory,
@@ -39,13 +40,8 @@ pub enum DecodeError {
 pub enum Unread {
     OutOfMemory,
     /// The bytes end within the item.
-    Ended {
-        left: usize,
-    },
-    Fault {
-        left: usize,
-        kind: DecodeKind,
-    },
+    Ended { left: usize },
+    Fault { left: usize, kind: DecodeKind },
 }
 
 impl From<AllocError> for Unread {

@@ -89,12 +89,7 @@ fn if_instr(kind: Option<ValueKind>, one: Vec<Instr>, two: Vec<Instr>) -> Instr
 }
 
 #[cycle(sequence)]
-fn block(
-    alloc: Global,
-    depth: u32,
-    looped: bool,
-    bytes: &[u8],
-) -> Result<(Instr, &[u8]), Unread>
+fn block(alloc: Global, depth: u32, looped: bool, bytes: &[u8]) -> Result<(Instr, &[u8]), Unread>
     ensures { (n : ℕ) → length bytes.now < n → Gives (λ x. (put x.0, x.1.now)) result (deeper depth bytes.now (block_at (block_of looped) (inside (seq_at n) depth) bytes.now)) }
 {
     if depth == 0 {

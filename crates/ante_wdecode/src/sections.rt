@@ -9,15 +9,17 @@ use crate::items::{number, read_vector};
 use crate::parts::exact_number;
 use crate::types::{name_bytes, read_sized_vector};
 use ante_pack::Seq;
-use ante_wtree::{
-    Code, Element, Export, FuncType, Import, ImportKind, Limits, Module, Segment,
-};
+use ante_wtree::{Code, Element, Export, FuncType, Import, ImportKind, Limits, Module, Segment};
 use std::alloc::Global;
 
 const MOST_TYPES: u32 = 1024;
+
 const MOST_FUNCTIONS: u32 = 8192;
+
 const MOST_GLOBALS: u32 = 1024;
+
 const MOST_EXPORTS: u32 = 8192;
+
 const MOST_SEGMENTS: u32 = 1024;
 
 /// The sections, in the order of their numbers (section 5.5.2).
@@ -172,7 +174,11 @@ fn read_custom(bytes: &[u8]) -> Result<(Contents, &[u8]), Unread>
     }
 }
 
-fn read_bodies<'a>(alloc: Global, so_far: &Module, bytes: &'a [u8]) -> Result<(Seq<Code>, &'a [u8]), Unread>
+fn read_bodies<'a>(
+    alloc: Global,
+    so_far: &Module,
+    bytes: &'a [u8],
+) -> Result<(Seq<Code>, &'a [u8]), Unread>
     ensures { Gives (λ x. (map body_of x.0, x.1.now)) result ((bodies (tree_of so_far.now)).read bytes.now) }
 {
     let (_, rest) = exact_number(so_far.functions.len(), bytes)?;

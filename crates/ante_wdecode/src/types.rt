@@ -14,7 +14,9 @@ use std::alloc::Global;
 
 /// As many as a u32 can say.
 pub const ANY: u32 = 0xFFFF_FFFF;
+
 const MOST_PARAMS: u32 = 4096;
+
 const MOST_ELEMENTS: u32 = 8192;
 
 pub fn raw_bytes(count: u32, bytes: &[u8]) -> Result<(&[u8], &[u8]), Unread>

@@ -20,7 +20,7 @@ const NUMBERS: [u32; 4] = [0, 83, 87, 88];
 
 const EMPTY: &[u8] = b"\0asm\x01\0\0\0";
 
-const CODES: [&[u8]; 38] = [
+const CODES: [&[u8]; 45] = [
     // The empty module.
     b"\0asm\x01\0\0\0",
     // A floating-point constant, and a byte that is no opcode.
@@ -72,6 +72,15 @@ const CODES: [&[u8]; 38] = [
     b"\0asm\x01\0\0\0\x04\x05\x01p\0\x81@",
     b"\0asm\x01\0\0\0\x01\x04\x01`\x81 ",
     b"\0asm\x01\0\0\0\x01\x05\x01`\x01\x7F\0\x03\x02\x01\0\x0A\x07\x01\x05\x01\x80 \x7F\x0B",
+    // Limits: 8,193 imports, 8,192 functions beside an imported one, 1,025 globals, 8,193 exports, 1,025 elements
+    // and data, 8,193 targets.
+    b"\0asm\x01\0\0\0\x02\x02\x81@",
+    b"\0asm\x01\0\0\0\x02\x07\x01\x01m\x01f\0\0\x03\x02\x80@",
+    b"\0asm\x01\0\0\0\x06\x02\x81\x08",
+    b"\0asm\x01\0\0\0\x07\x02\x81@",
+    b"\0asm\x01\0\0\0\x09\x02\x81\x08",
+    b"\0asm\x01\0\0\0\x0B\x02\x81\x08",
+    b"\0asm\x01\0\0\0\x01\x04\x01`\0\0\x03\x02\x01\0\x0A\x07\x01\x05\0\x0E\x81@\x0B",
     // A table, a memory, globals, a start, elements and data; table number 0 in two bytes.
     b"\0asm\x01\0\0\0\x01\x04\x01`\0\0\x02\x18\x03\x01m\x01g\x03~\x01\x01m\x01t\x01p\x01\x01\x02\x01m\x01n\x02\0\x01\x03\x02\x01\0\x04\x05\x01p\x01\x01\x02\x05\x03\x01\0\x01\x06\x10\x03\x7F\0A\x7F\x0B~\x01B~\x0B~\0#\0\x0B\x07\x0D\x03\x01t\x01\0\x01n\x02\0\x01g\x03\0\x08\x01\0\x09\x08\x01\x80\0A\0\x0B\x01\0\x0A\x06\x01\x04\x01\x02~\x0B\x0B\x09\x01\0A\x01\x0B\x03xyz",
     // Another table than 0.
@@ -79,7 +88,8 @@ const CODES: [&[u8]; 38] = [
 ];
 
 /// A contract that keeps sums in a table, under a key each, and is asked for them.
-const LEDGER: &[u8] = b"\0asm\x01\0\0\0\x012\x07`\x02\x7F\x7F\x01\x7F`\x04~~~~\x01\x7F`\x06~~~~\x7F\x7F\x01\x7F`\x04\x7F~\
+const LEDGER: &[u8] =
+    b"\0asm\x01\0\0\0\x012\x07`\x02\x7F\x7F\x01\x7F`\x04~~~~\x01\x7F`\x06~~~~\x7F\x7F\x01\x7F`\x04\x7F~\
     \x7F\x7F\0`\x03\x7F\x7F\x7F\x01\x7F`\x02\x7F\x7F\0`\x03~~~\0\x02\x80\x01\x06\x03env\x10read_action_d\
     ata\0\0\x03env\x0Bdb_find_i64\0\x01\x03env\x0Cdb_store_i64\0\x02\x03env\x0Ddb_update_i64\0\x03\x03en\
     v\x0Adb_get_i64\0\x04\x03env\x17set_action_return_value\0\x05\x03\x02\x01\x06\x05\x03\x01\0\x01\x07\
@@ -90,8 +100,11 @@ const LEDGER: &[u8] = b"\0asm\x01\0\0\0\x012\x07`\x02\x7F\x7F\x01\x7F`\x04~~~~\x
     \x10\x03\x0B\x05\x20\x03A\0N\x04@\x20\x03A\x08A\x08\x10\x04\x1AA\x08A\x08\x10\x05\x0B\x0B\x0B";
 
 /// A module of one function up to its blocks, of which there are 1,024 and 1,025.
-const HEAD_1024: &[u8] = b"\0asm\x01\0\0\0\x01\x04\x01`\0\0\x03\x02\x01\0\x0A\x85\x18\x01\x82\x18\0";
-const HEAD_1025: &[u8] = b"\0asm\x01\0\0\0\x01\x04\x01`\0\0\x03\x02\x01\0\x0A\x88\x18\x01\x85\x18\0";
+const HEAD_1024: &[u8] =
+    b"\0asm\x01\0\0\0\x01\x04\x01`\0\0\x03\x02\x01\0\x0A\x85\x18\x01\x82\x18\0";
+
+const HEAD_1025: &[u8] =
+    b"\0asm\x01\0\0\0\x01\x04\x01`\0\0\x03\x02\x01\0\x0A\x88\x18\x01\x85\x18\0";
 
 fn print_hosts(rt: &impl Print) -> io::Result<()> {
     for name in NAMES {
@@ -129,6 +142,12 @@ fn nested(alloc: Global, head: &[u8], depth: usize) -> Result<Vec<u8>, AllocErro
     Ok(code)
 }
 
+fn zeros(alloc: Global, length: usize) -> Result<Vec<u8>, AllocError> {
+    let mut code = Vec::new(alloc);
+    code.resize(length, 0)?;
+    Ok(code)
+}
+
 fn print_nested(rt: &impl Print, alloc: Global, head: &[u8], depth: usize) -> io::Result<()> {
     let Ok(code) = nested(alloc, head, depth) else {
         return println!(rt; "out of memory");
@@ -139,9 +158,19 @@ fn print_nested(rt: &impl Print, alloc: Global, head: &[u8], depth: usize) -> io
     }
 }
 
+/// The longest code that is read, and one more byte.
+fn print_long(rt: &impl Print, alloc: Global, length: usize) -> io::Result<()> {
+    let Ok(code) = zeros(alloc, length) else {
+        return println!(rt; "out of memory");
+    };
+    print_decoded(rt, alloc, code.as_slice())
+}
+
 fn main(rt: HostRuntime) -> io::Result<()> {
     print_hosts(&rt)?;
     print_codes(&rt, rt.alloc())?;
     print_nested(&rt, rt.alloc(), HEAD_1024, 1024)?;
-    print_nested(&rt, rt.alloc(), HEAD_1025, 1025)
+    print_nested(&rt, rt.alloc(), HEAD_1025, 1025)?;
+    print_long(&rt, rt.alloc(), 1_048_576)?;
+    print_long(&rt, rt.alloc(), 1_048_577)
 }
