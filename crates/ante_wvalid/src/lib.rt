@@ -1,0 +1,8 @@
+//! The validation of WebAssembly modules (Core 1.0, chapter 3), with the rules of this profile.
+#![tactic(auto)]
+
+mod kinds;
+mod valid;
+
+pub use kinds::{InvalidKind, ModuleRule, ValidateError};
+pub use valid::ValidModule;
