@@ -1,0 +1,3 @@
+pub mod Carrying
+pub mod Nodes
+pub mod Passing

@@ -1,7 +1,12 @@
 //! The validation of WebAssembly modules (Core 1.0, chapter 3), with the rules of this profile.
 #![tactic(auto)]
 
+mod bodies;
+mod jumps;
 mod kinds;
+mod known;
+mod scope;
+mod stack;
 mod valid;
 
 pub use kinds::{InvalidKind, ModuleRule, ValidateError};
