@@ -104,7 +104,7 @@ fn step(
     shape: Shape<'_>,
     operands: &mut Known,
 ) -> Result<bool, AllocError>
-    ensures carries { IfOk result (λ yes. Carries (step_of (context_in scope.now labels.old) shape) yes operands.old operands.new) }
+    ensures carries { IfOk result (λ yes. Carries (step_of (context_in scope.now labels.old) shape.entry) yes operands.old operands.new) }
     ensures labels { IfOk result (λ _. labels.new ≡ labels.old) }
 {
     match shape {

@@ -6,16 +6,16 @@ use Rattle.ante_wvalid.proofs.Passing.{SoFar}
 use Rattle.ante_wvalid.proofs.bodies.+bodies.Given as goal
 
 abbrev pub decreases-sequence : goal.decreases-sequence
-decreases-sequence l = 4 * nodes (expression_of l.body) + 1
+decreases-sequence l = 4 * nodes (expression_of l.body.now) + 1
 
 abbrev pub decreases-inner : goal.decreases-inner
-decreases-inner l = 4 * nodes (expression_of l.body) + 2
+decreases-inner l = 4 * nodes (expression_of l.body.now) + 2
 
 abbrev pub decreases-block : goal.decreases-block
-decreases-block l = 4 * nodes (expression_of l.body) + 3
+decreases-block l = 4 * nodes (expression_of l.body.now) + 3
 
 abbrev pub decreases-choice : goal.decreases-choice
-decreases-choice l = 4 * (nodes (expression_of l.one) + nodes (expression_of l.two)) + 3
+decreases-choice l = 4 * (nodes (expression_of l.one.now) + nodes (expression_of l.two.now)) + 3
 
 abbrev pub decreases-step : goal.decreases-step
 decreases-step l = 4 * size_of l.shape
