@@ -42,9 +42,9 @@ abbrev pub first_of : List ValueKind → Option ValueKind
 first_of [] = None
 first_of (k ∷ ks) = Some k
 
--- Function f has these parameters and results.
-abbrev pub HasType : Tree → ℕ → (params results : List ValueKind) → Type 0
-HasType m f params results = (t : FuncType) × (type_numbered m.types (slice_get (function_types m) f) ≡ Some t) × (t.params ≡ params) × (t.results ≡ results)
+-- Function f is there, and its type has these parameters and results.
+abbrev pub HasType : List FuncType → List ℕ → ℕ → (params results : List ValueKind) → Type 0
+HasType types functions f params results = (t : FuncType) × (type_numbered types (slice_get functions f) ≡ Some t) × (t.params ≡ params) × (t.results ≡ results)
 
 -- ---- imports
 
@@ -56,16 +56,16 @@ abbrev pub IsKnown : Import → Type 0
 IsKnown i = (i.module ≡ codes "env") × ((host : ℕ) × (name_at host ≡ Some i.name))
 
 -- The import has the type that hosts give the function of its name.
-abbrev pub HasHostType : Tree → Import → Type 0
-HasHostType m i = (number host : ℕ) × (t : FuncType) × (result : Option ValueKind)
-    × (i.kind ≡ import.Function number) × (slice_get m.types number ≡ Some t)
+abbrev pub HasHostType : List FuncType → Import → Type 0
+HasHostType types i = (number host : ℕ) × (t : FuncType) × (result : Option ValueKind)
+    × (i.kind ≡ import.Function number) × (slice_get types number ≡ Some t)
     × (name_at host ≡ Some i.name) × (type_at host ≡ Some (t.params, result)) × (t.results ≡ kinds_of result)
 
 -- ---- rules for the rest
 
--- at least this many, and at most fewer
-abbrev pub Crossed : Limits → Type 0
-Crossed l = (most : ℕ) × (l.most ≡ Some most) × (most < l.least)
+-- at least more than at most, or at least more than this
+abbrev pub OutOfBounds : ℕ → Limits → Type 0
+OutOfBounds bound l = ((most : ℕ) × (l.most ≡ Some most) × (most < l.least)) ⊎ (bound < l.least)
 
 -- the kind of a constant; no global is imported, so there is none whose value could be taken
 abbrev pub constant_kind : Init → Option ValueKind
@@ -94,12 +94,12 @@ Breaks m rule.TypeIndex = Any (λ number. length m.types ≤ number) m.functions
 Breaks m rule.Results = Any (λ t. 1 < length t.results) m.types
 Breaks m rule.TwoTables = 1 < length m.table
 Breaks m rule.TwoMemories = 1 < length m.memory
-Breaks m rule.Bounds = Any (λ l. Crossed l ⊎ (8192 < l.least)) m.table ⊎ Any (λ l. Crossed l ⊎ (528 < l.least)) m.memory
+Breaks m rule.Bounds = Any (OutOfBounds 8192) m.table ⊎ Any (OutOfBounds 528) m.memory
 Breaks m rule.GlobalInit = Any (λ g. IsConstant g.kind g.init → ⊥) m.globals
     ⊎ (Any (λ e. IsConstant I32 e.offset → ⊥) m.elements ⊎ Any (λ s. IsConstant I32 s.offset → ⊥) m.segments)
 Breaks m rule.ExportIndex = Any (λ e. count m e.kind ≤ e.index) m.exports
 Breaks m rule.ExportTwice = Twice m.exports
-Breaks m rule.Start = (f : ℕ) × (m.start ≡ Some f) × (HasType m f [] [] → ⊥)
+Breaks m rule.Start = (f : ℕ) × (m.start ≡ Some f) × (HasType m.types (function_types m) f [] [] → ⊥)
 Breaks m rule.ElementIndex = Any (λ e. (m.table ≡ []) ⊎ Any (λ f. length (function_types m) ≤ f) e.functions) m.elements
 Breaks m rule.SegmentMemory = (0 < length m.segments) × (m.memory ≡ [])
 
@@ -128,9 +128,12 @@ IsFunctionTyped m at = (number : ℕ) × (t : FuncType) × (code : Body)
     × (slice_get m.functions at ≡ Some number) × (slice_get m.types number ≡ Some t) × (slice_get m.codes at ≡ Some code)
     × Typed (context_of m t.params code.locals (first_of t.results)) code.body [] (kinds_of (first_of t.results))
 
--- A function `apply` of three i64 and no result is exported.
+-- The export is a function `apply` of three i64 and no result.
+abbrev pub IsApply : List FuncType → List ℕ → Export → Type 0
+IsApply types functions e = (e.name ≡ codes "apply") × (e.kind ≡ export.Function) × HasType types functions e.index (I64 ∷ I64 ∷ I64 ∷ []) []
+
 abbrev pub HasApply : Tree → Type 0
-HasApply m = Any (λ e. (e.name ≡ codes "apply") × (e.kind ≡ export.Function) × HasType m e.index (I64 ∷ I64 ∷ I64 ∷ []) []) m.exports
+HasApply m = Any (IsApply m.types (function_types m)) m.exports
 
 -- ---- what is wrong with a module
 
@@ -141,28 +144,32 @@ At {A} P xs at = (x : A) × (slice_get xs at ≡ Some x) × P x
 abbrev pub Applies : Tree → InvalidKind → Type 0
 Applies m (invalid.ImportKind index) = At (λ i. IsFunction i → ⊥) m.imports index
 Applies m (invalid.UnknownImport index) = At (λ i. IsKnown i → ⊥) m.imports index
-Applies m (invalid.ImportType index) = At (λ i. HasHostType m i → ⊥) m.imports index
+Applies m (invalid.ImportType index) = At (λ i. HasHostType m.types i → ⊥) m.imports index
 Applies m (invalid.Rule r) = Breaks m r
 Applies m (invalid.Body function) = (at : ℕ) × (function ≡ length (imported m.imports) + at)
     × ((at < length m.functions) ⊎ (at < length m.codes)) × (IsFunctionTyped m at → ⊥)
 Applies m invalid.NoApply = HasApply m → ⊥
+
+-- the order in which rules are looked for
+abbrev pub rule_place : ModuleRule → ℕ
+rule_place rule.TypeIndex = 0
+rule_place rule.Results = 1
+rule_place rule.TwoTables = 2
+rule_place rule.TwoMemories = 3
+rule_place rule.Bounds = 4
+rule_place rule.GlobalInit = 5
+rule_place rule.ExportIndex = 6
+rule_place rule.ExportTwice = 7
+rule_place rule.Start = 8
+rule_place rule.ElementIndex = 9
+rule_place rule.SegmentMemory = 10
 
 -- the order in which kinds are looked for: by this number, and within it by the index
 abbrev pub place : InvalidKind → ℕ
 place (invalid.ImportKind index) = 0
 place (invalid.UnknownImport index) = 1
 place (invalid.ImportType index) = 2
-place (invalid.Rule rule.TypeIndex) = 3
-place (invalid.Rule rule.Results) = 4
-place (invalid.Rule rule.TwoTables) = 5
-place (invalid.Rule rule.TwoMemories) = 6
-place (invalid.Rule rule.Bounds) = 7
-place (invalid.Rule rule.GlobalInit) = 8
-place (invalid.Rule rule.ExportIndex) = 9
-place (invalid.Rule rule.ExportTwice) = 10
-place (invalid.Rule rule.Start) = 11
-place (invalid.Rule rule.ElementIndex) = 12
-place (invalid.Rule rule.SegmentMemory) = 13
+place (invalid.Rule r) = 3 + rule_place r
 place (invalid.Body function) = 14
 place invalid.NoApply = 15
 

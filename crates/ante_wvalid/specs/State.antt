@@ -5,6 +5,11 @@ use Rattle.ante_wtree.specs.declared.instructions.ValueKind.TheVariants.{I32}
 use Rattle.ante_wtree.specs.declared.shape.Shape.{Shape}
 use Rattle.ante_wtree.specs.declared.shape.Shape.TheVariants as shape
 use Rattle.ante_wtree.specs.Expressions.{expression_of}
+use Rattle.ante_wtree.specs.declared.modules.FuncType.{FuncType}
+use Rattle.ante_wtree.specs.declared.modules.Import.{Import}
+use Rattle.ante_wvalid.specs.declared.imports.ImportRule.{ImportRule}
+use Rattle.ante_wvalid.specs.declared.imports.ImportRule.TheVariants as import_rule
+use Rattle.ante_wvalid.specs.Modules.{IsFunction, IsKnown, HasHostType}
 use Rattle.ante_wvalid.specs.declared.known.Known.{Known}
 use Rattle.ante_wvalid.specs.declared.scope.Scope.{Scope}
 use Rattle.ante_wvalid.specs.declared.scope.Signature.{Signature}
@@ -70,3 +75,10 @@ step_of c shape.Return = Leaves c.result
 step_of c (shape.Call f) = CallsNamed c f
 step_of c (shape.CallIndirect number) = CallsByTable c number
 step_of c shape.MemoryGrow = Grows c
+
+-- ---- imports
+
+abbrev pub IsRefused : List FuncType → ImportRule → Import → Type 0
+IsRefused types import_rule.Function i = IsFunction i → ⊥
+IsRefused types import_rule.Known i = IsKnown i → ⊥
+IsRefused types import_rule.HostType i = HasHostType types i → ⊥

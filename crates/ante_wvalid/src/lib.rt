@@ -2,9 +2,11 @@
 #![tactic(auto)]
 
 mod bodies;
+mod imports;
 mod jumps;
 mod kinds;
 mod known;
+mod rules;
 mod scope;
 mod stack;
 mod valid;
