@@ -4,7 +4,7 @@ use Rattle.std.proofs.lemmas.List.Elements.{All-head, All-tail, All-cons}
 use Rattle.ante_wtree.specs.declared.instructions.ValueKind.{ValueKind}
 use Rattle.ante_wtree.specs.declared.instructions.ValueKind.TheVariants.{I32}
 use Rattle.ante_wvalid.specs.declared.known.Known.{Known}
-use Rattle.ante_wvalid.specs.Typing.{Operands, onto, kinds_of, Pops, Pushes, Turns, Then, With, Where, Anything, Dropped, Selected}
+use Rattle.ante_wvalid.specs.Typing.{Operands, onto, Pops, Pushes, Turns, Then, With, Where, Anything, Dropped, Selected}
 use Rattle.ante_wvalid.specs.State.{Same, Fits, Stands, Of, Carries}
 
 abbrev pub Step : Type 1

@@ -1,5 +1,5 @@
 -- How many instructions an expression has, with those of its bodies: the measure of the recursion over bodies.
-use Rattle.std.proofs.Common.{◌≡◌, ℕ, suc, ◌+◌, ◌<◌, ◌≤◌, refl, sym, ap, ◌∙◌, arith}
+use Rattle.std.proofs.Common.{◌≡◌, ℕ, suc, ◌+◌, ap, ◌∙◌, arith}
 use Rattle.ante_wtree.specs.declared.instructions.Instr.{Instr}
 use Rattle.ante_wtree.specs.declared.shape.Shape.{Shape}
 use Rattle.ante_wtree.specs.declared.shape.Shape.TheVariants as shape

@@ -1,14 +1,14 @@
 -- A sequence's instructions are checked one by one, from the first.
-use Rattle.std.proofs.Common.{◌≡◌, ◌↔◌, ℕ, ◌+◌, ◌≤◌, Bool, true, false, IsTrue, List, [], ◌∷◌, Option, None, Some, refl, sym, ap, subst, ◌∙◌, arith}
+use Rattle.std.proofs.Common.{◌≡◌, ◌↔◌, ◌≤◌, Bool, true, false, IsTrue, List, [], ◌∷◌, Option, None, Some, refl, sym, ap, subst, ◌∙◌, arith}
 use Rattle.ante_wtree.specs.declared.instructions.ValueKind.{ValueKind}
 use Rattle.ante_wtree.specs.declared.instructions.Instr.{Instr}
 use Rattle.ante_wtree.specs.declared.shape.Shape.{Shape}
 use Rattle.ante_wtree.specs.declared.shape.Shape.TheVariants as shape
-use Rattle.ante_wtree.specs.Expressions.{Expression, put, put_shape, expression_of, Over}
+use Rattle.ante_wtree.specs.Expressions.{Expression, put, put_shape, expression_of}
 use Rattle.ante_wvalid.specs.declared.known.Known.{Known}
 use Rattle.ante_wvalid.specs.Typing.{Context, Operands, Typed, Then, onto, kinds_of}
 use Rattle.ante_wvalid.specs.State.{Same, Of, Carries, step_of}
-use Rattle.ante_wvalid.proofs.Carrying.{Step, stopped, carried}
+use Rattle.ante_wvalid.proofs.Carrying.{stopped, carried}
 use Rattle.ante_wvalid.proofs.Nodes.{nodes, size_of, first_and_rest}
 
 -- an instruction's step and then the rest's
@@ -78,10 +78,10 @@ onto_none (Some k) = refl
 pub at_end : (c : Context) (body rest : List Instr) (known : Known) (kind : Option ValueKind) (kinds : List ValueKind) (y : Bool) → rest ≡ [] → kinds ≡ kinds_of kind → SoFar c body rest known →
     IsTrue y ↔ Of known (onto kinds []) → IsTrue y ↔ Typed c (expression_of body) [] (kinds_of kind)
 at_end c body rest known kind kinds y e k so h =
-    let is : onto kinds [] ≡ kinds_of kind = ap (λ x. onto x []) k ∙ onto_none kind in
-    ( λ t. (so.same (kinds_of kind)).from (kinds_of kind, subst (Of known) is (h.0 t), subst (λ x. Typed c (expression_of x) (kinds_of kind) (kinds_of kind)) (sym e) refl)
-    , λ t.
-        let r = (so.same (kinds_of kind)).to t in
-        let s : r.0 ≡ kinds_of kind = subst (λ x. Typed c (expression_of x) r.0 (kinds_of kind)) e r.2 in
-        h.1 (subst (Of known) (s ∙ sym is) r.1)
+    let is : onto kinds [] ≡ kinds_of kind = ap (λ x. onto x []) k ∙ onto_none kind in (
+      λ t. (so.same (kinds_of kind)).from (kinds_of kind, subst (Of known) is (h.0 t), subst (λ x. Typed c (expression_of x) (kinds_of kind) (kinds_of kind)) (sym e) refl),
+      λ t.
+          let r = (so.same (kinds_of kind)).to t in
+          let s : r.0 ≡ kinds_of kind = subst (λ x. Typed c (expression_of x) r.0 (kinds_of kind)) e r.2 in
+          h.1 (subst (Of known) (s ∙ sym is) r.1),
     )

@@ -1,3 +1,4 @@
-pub mod Typing
+pub mod Answers
 pub mod Modules
 pub mod State
+pub mod Typing

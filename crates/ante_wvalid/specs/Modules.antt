@@ -51,15 +51,21 @@ HasType types functions f params results = (t : FuncType) × (type_numbered type
 abbrev pub IsFunction : Import → Type 0
 IsFunction i = (number : ℕ) × (i.kind ≡ import.Function number)
 
+abbrev pub IsHostName : List ℕ → Type 0
+IsHostName name = (host : ℕ) × (name_at host ≡ Some name)
+
 -- The import names a function that hosts have.
 abbrev pub IsKnown : Import → Type 0
-IsKnown i = (i.module ≡ codes "env") × ((host : ℕ) × (name_at host ≡ Some i.name))
+IsKnown i = (i.module ≡ codes "env") × IsHostName i.name
+
+-- The function that hosts give this name has this type.
+abbrev pub HostType : List ℕ → List ValueKind → Option ValueKind → Type 0
+HostType name params result = (host : ℕ) × (name_at host ≡ Some name) × (type_at host ≡ Some (params, result))
 
 -- The import has the type that hosts give the function of its name.
 abbrev pub HasHostType : List FuncType → Import → Type 0
-HasHostType types i = (number host : ℕ) × (t : FuncType) × (result : Option ValueKind)
-    × (i.kind ≡ import.Function number) × (slice_get types number ≡ Some t)
-    × (name_at host ≡ Some i.name) × (type_at host ≡ Some (t.params, result)) × (t.results ≡ kinds_of result)
+HasHostType types i = (number : ℕ) × (t : FuncType) × (result : Option ValueKind)
+    × (i.kind ≡ import.Function number) × (slice_get types number ≡ Some t) × HostType i.name t.params result × (t.results ≡ kinds_of result)
 
 -- ---- rules for the rest
 
@@ -140,14 +146,16 @@ HasApply m = Any (IsApply m.types (function_types m)) m.exports
 abbrev pub At : {A : Type 0} → (A → Type 0) → List A → ℕ → Type 0
 At {A} P xs at = (x : A) × (slice_get xs at ≡ Some x) × P x
 
--- A function and a body that stand at different counts have no partner.
+-- There is an own function or a body at this place, and no typed function.
+abbrev pub IsUntyped : Tree → ℕ → Type 0
+IsUntyped m at = ((at < length m.functions) ⊎ (at < length m.codes)) × (IsFunctionTyped m at → ⊥)
+
 abbrev pub Applies : Tree → InvalidKind → Type 0
 Applies m (invalid.ImportKind index) = At (λ i. IsFunction i → ⊥) m.imports index
 Applies m (invalid.UnknownImport index) = At (λ i. IsKnown i → ⊥) m.imports index
 Applies m (invalid.ImportType index) = At (λ i. HasHostType m.types i → ⊥) m.imports index
 Applies m (invalid.Rule r) = Breaks m r
-Applies m (invalid.Body function) = (at : ℕ) × (function ≡ length (imported m.imports) + at)
-    × ((at < length m.functions) ⊎ (at < length m.codes)) × (IsFunctionTyped m at → ⊥)
+Applies m (invalid.Body function) = (at : ℕ) × (function ≡ length (imported m.imports) + at) × IsUntyped m at
 Applies m invalid.NoApply = HasApply m → ⊥
 
 -- the order in which rules are looked for

@@ -1,5 +1,5 @@
 -- What is known of a stack of operands stands for a set of stacks, and an instruction carries the one set to the other.
-use Rattle.std.specs.Prelude.{◌≡◌, Bool, true, false, List, [], ◌∷◌, ◌++◌, Option, None, Some}
+use Rattle.std.specs.Prelude.{◌≡◌, ℕ, Bool, true, false, List, [], ◌∷◌, ◌++◌, Option, None, Some}
 use Rattle.ante_wtree.specs.declared.instructions.ValueKind.{ValueKind}
 use Rattle.ante_wtree.specs.declared.instructions.ValueKind.TheVariants.{I32}
 use Rattle.ante_wtree.specs.declared.shape.Shape.{Shape}
@@ -9,7 +9,7 @@ use Rattle.ante_wtree.specs.declared.modules.FuncType.{FuncType}
 use Rattle.ante_wtree.specs.declared.modules.Import.{Import}
 use Rattle.ante_wvalid.specs.declared.imports.ImportRule.{ImportRule}
 use Rattle.ante_wvalid.specs.declared.imports.ImportRule.TheVariants as import_rule
-use Rattle.ante_wvalid.specs.Modules.{IsFunction, IsKnown, HasHostType}
+use Rattle.ante_wvalid.specs.Modules.{At, IsFunction, IsKnown, HasHostType}
 use Rattle.ante_wvalid.specs.declared.known.Known.{Known}
 use Rattle.ante_wvalid.specs.declared.scope.Scope.{Scope}
 use Rattle.ante_wvalid.specs.declared.scope.Signature.{Signature}
@@ -78,7 +78,10 @@ step_of c shape.MemoryGrow = Grows c
 
 -- ---- imports
 
-abbrev pub IsRefused : List FuncType → ImportRule → Import → Type 0
-IsRefused types import_rule.Function i = IsFunction i → ⊥
-IsRefused types import_rule.Known i = IsKnown i → ⊥
-IsRefused types import_rule.HostType i = HasHostType types i → ⊥
+abbrev pub Meets : List FuncType → ImportRule → Import → Type 0
+Meets types import_rule.Function i = IsFunction i
+Meets types import_rule.Known i = IsKnown i
+Meets types import_rule.HostType i = HasHostType types i
+
+abbrev pub IsRefused : List FuncType → ImportRule → List Import → ℕ → Type 0
+IsRefused types rule imports at = At (λ i. Meets types rule i → ⊥) imports at

@@ -4,7 +4,7 @@ ghost use Rattle.ante_wvalid.specs.Typing.{Pops, Turns, Then, With, Where, Moves
 ghost use Rattle.ante_wvalid.specs.State.{Carries, context_in};
 
 use crate::known::Known;
-use crate::scope::{Scope, Signature, kinds};
+use crate::scope::{Scope, Signature, function_type, kinds, numbered};
 use crate::stack::Stack;
 use ante_wtree::{PlainInstr, ValueKind};
 use std::alloc::{AllocError, Global};
@@ -113,7 +113,7 @@ pub fn call(
 ) -> Result<bool, AllocError>
     ensures { IfOk result (λ typed. Carries (With (type_numbered scope.now.types.now (slice_get scope.now.functions.now f)) Calls) typed operands.old operands.new) }
 {
-    match scope.function(f) {
+    match function_type(scope.types, scope.functions, f) {
         Some(callee) => {
             operands.turn(alloc, callee.params.as_slice(), callee.results.as_slice())
         }
@@ -132,7 +132,7 @@ pub fn call_by_table(
     if !scope.table {
         return Ok(false);
     }
-    let Some(callee) = scope.numbered(number) else {
+    let Some(callee) = numbered(scope.types, number) else {
         return Ok(false);
     };
     if !operands.pop_kind(ValueKind::I32) {
@@ -141,11 +141,7 @@ pub fn call_by_table(
     operands.turn(alloc, callee.params.as_slice(), callee.results.as_slice())
 }
 
-pub fn grow(
-    scope: &Scope<'_>,
-    alloc: Global,
-    operands: &mut Known,
-) -> Result<bool, AllocError>
+pub fn grow(scope: &Scope<'_>, alloc: Global, operands: &mut Known) -> Result<bool, AllocError>
     ensures { IfOk result (λ typed. Carries (Where (scope.now.memory ≡ true) (Turns (I32 ∷ []) (I32 ∷ []))) typed operands.old operands.new) }
 {
     if !scope.memory {

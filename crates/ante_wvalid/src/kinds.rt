@@ -1,3 +1,5 @@
+use std::alloc::AllocError;
+
 /// A rule for a part of a module, in the order in which they are looked for.
 #[derive(Clone, Copy, PartialEq, Eq, Debug)]
 pub enum ModuleRule {
@@ -43,4 +45,15 @@ pub enum InvalidKind {
 pub enum ValidateError {
     OutOfMemory,
     Invalid(InvalidKind),
+}
+
+impl From<AllocError> for ValidateError {
+    ghost use Rattle.std.specs.Prelude.{◌≡◌};
+    ghost use Rattle.ante_wvalid.specs.declared.kinds.ValidateError.TheVariants.{OutOfMemory};
+
+    ghost from_gives = { λ _ e. e ≡ OutOfMemory };
+
+    fn from(_: AllocError) -> ValidateError {
+        ValidateError::OutOfMemory
+    }
 }

@@ -47,13 +47,7 @@ impl Known {
     {
         match self.kinds.pop() {
             Some(known) => Some(known),
-            None => {
-                if self.bottomless {
-                    Some(None)
-                } else {
-                    None
-                }
-            }
+            None => { if self.bottomless { Some(None) } else { None } }
         }
     }
 

@@ -2,6 +2,7 @@
 #![tactic(auto)]
 
 mod bodies;
+mod functions;
 mod imports;
 mod jumps;
 mod kinds;
@@ -12,4 +13,4 @@ mod stack;
 mod valid;
 
 pub use kinds::{InvalidKind, ModuleRule, ValidateError};
-pub use valid::ValidModule;
+pub use valid::{ValidModule, validate};

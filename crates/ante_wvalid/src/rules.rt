@@ -3,16 +3,17 @@ ghost use Rattle.ante_wtree.specs.declared.instructions.ValueKind.TheVariants.{I
 ghost use Rattle.ante_wtree.specs.Trees.{tree_of};
 ghost use Rattle.ante_wvalid.specs.declared.kinds.ModuleRule.TheVariants as rule;
 ghost use Rattle.ante_wvalid.specs.Modules.{rule_place, Breaks, OutOfBounds, IsConstant, Twice, HasType, IsApply, HasApply, constant_kind, count, function_types};
-ghost use Rattle.std.specs.Option.{option_copied};
-ghost use Rattle.ante_wvalid.specs.Typing.{type_numbered};
 
 use crate::kinds::ModuleRule;
+use crate::scope::function_type;
 use ante_wtree::{
     Element, Export, ExportKind, FuncType, Global, Init, Limits, Module, Segment, ValueKind,
 };
 
 const L: ValueKind = ValueKind::I64;
+
 const PAGES: u32 = 528;
+
 const ELEMENTS: u32 = 8_192;
 
 fn is_out_of_bounds(bound: u32, limits: Limits) -> bool
@@ -133,7 +134,9 @@ fn export_index(module: &Module, functions: &[u32]) -> bool
 fn any_named(exports: &[Export], name: &[u8]) -> bool
     ensures { IsTrue result ↔ Any (λ e. e.name ≡ name.now) exports.now }
 {
-    exports.iter().any(|export| same_name(export, name))
+    exports
+        .iter()
+        .any(|export| same_bytes(export.name.as_slice(), name))
 }
 
 fn export_twice(exports: &[Export]) -> bool
@@ -243,25 +246,22 @@ pub fn first_broken(module: &Module, functions: &[u32]) -> Option<ModuleRule>
     }
 }
 
-fn same_name(one: &Export, name: &[u8]) -> bool
-    ensures { IsTrue result ↔ (one.now.name ≡ name.now) }
-{
-    one.name.as_slice() == name
-}
-
-fn type_numbered<'a>(types: &'a [FuncType], functions: &[u32], f: u32) -> Option<&'a FuncType>
-    ensures { option_copied result ≡ type_numbered types.now (slice_get functions.now f) }
-{
-    match functions.get(f as usize).copied() {
-        Some(number) => types.get(number as usize),
-        None => None,
-    }
-}
-
-pub fn same_kinds(one: &[ValueKind], two: &[ValueKind]) -> bool
+pub fn same_bytes(one: &[u8], two: &[u8]) -> bool
     ensures { IsTrue result ↔ (one.now ≡ two.now) }
 {
     one == two
+}
+
+fn same_kinds(one: &[ValueKind], two: &[ValueKind]) -> bool
+    ensures { IsTrue result ↔ (one.now ≡ two.now) }
+{
+    one == two
+}
+
+pub fn same_type(found: &FuncType, params: &[ValueKind], results: &[ValueKind]) -> bool
+    ensures { IsTrue result ↔ ((found.now.params ≡ params.now) × (found.now.results ≡ results.now)) }
+{
+    same_kinds(found.params.as_slice(), params) && same_kinds(found.results.as_slice(), results)
 }
 
 /// Whether a function has this type.
@@ -274,11 +274,8 @@ pub fn has_type(
 ) -> bool
     ensures { IsTrue result ↔ HasType types.now functions.now f params.now results.now }
 {
-    match type_numbered(types, functions, f) {
-        Some(found) => {
-            same_kinds(found.params.as_slice(), params)
-                && same_kinds(found.results.as_slice(), results)
-        }
+    match function_type(types, functions, f) {
+        Some(found) => same_type(found, params, results),
         None => false,
     }
 }
@@ -286,7 +283,7 @@ pub fn has_type(
 fn is_apply(types: &[FuncType], functions: &[u32], export: &Export) -> bool
     ensures { IsTrue result ↔ IsApply types.now functions.now export.now }
 {
-    if !same_name(export, b"apply") {
+    if !same_bytes(export.name.as_slice(), b"apply") {
         return false;
     }
     match export.kind {

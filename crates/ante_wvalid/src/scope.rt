@@ -7,6 +7,7 @@ ghost use Rattle.ante_wvalid.specs.State.{context_in, type_in};
 use ante_wtree::{FuncType, Global, LoadKind, PlainInstr, StoreKind, ValueKind};
 
 const I: ValueKind = ValueKind::I32;
+
 const L: ValueKind = ValueKind::I64;
 
 /// What a body is typed in, but for its labels.
@@ -91,17 +92,30 @@ fn address_and(kind: ValueKind) -> &'static [ValueKind]
 fn only_if(holds: bool, signature: Signature) -> Signature
     ensures { type_in result ≡ only_if holds (type_in signature) }
 {
-    if holds {
-        signature
-    } else {
-        Signature::Untyped
-    }
+    if holds { signature } else { Signature::Untyped }
 }
 
 fn aligned(memory: bool, align: u32, exponent: u32) -> bool
     ensures { result ≡ (memory && nat_le align exponent) }
 {
     memory && align <= exponent
+}
+
+/// The type of this number.
+pub fn numbered(types: &[FuncType], number: u32) -> Option<&FuncType>
+    ensures { option_copied result ≡ slice_get types.now number }
+{
+    types.get(number as usize)
+}
+
+/// The type of a function.
+pub fn function_type<'a>(types: &'a [FuncType], functions: &[u32], f: u32) -> Option<&'a FuncType>
+    ensures { option_copied result ≡ type_numbered types.now (slice_get functions.now f) }
+{
+    match functions.get(f as usize).copied() {
+        Some(number) => numbered(types, number),
+        None => None,
+    }
 }
 
 impl<'a> Scope<'a> {
@@ -120,23 +134,6 @@ impl<'a> Scope<'a> {
         ensures { result ≡ slice_get self.now.globals.now n }
     {
         self.globals.get(n as usize).copied()
-    }
-
-    /// The type of this number.
-    pub fn numbered(&self, number: u32) -> Option<&'a FuncType>
-        ensures { option_copied result ≡ slice_get self.now.types.now number }
-    {
-        self.types.get(number as usize)
-    }
-
-    /// The type of a function.
-    pub fn function(&self, f: u32) -> Option<&'a FuncType>
-        ensures { option_copied result ≡ type_numbered self.now.types.now (slice_get self.now.functions.now f) }
-    {
-        match self.functions.get(f as usize).copied() {
-            Some(number) => self.numbered(number),
-            None => None,
-        }
     }
 
     pub fn signature(&self, instr: PlainInstr) -> Signature

@@ -1,5 +1,5 @@
 use Rattle.std.proofs.Common.{◌≡◌, Some, slice_get}
-use Rattle.ante_wvalid.proofs.Carrying.{all_stops, all_more}
+use Rattle.ante_wvalid.proofs.Carrying.{all_more}
 use Rattle.ante_wvalid.proofs.jumps.agree.Goals as goal
 
 pub targets-preserved : goal.targets-preserved

@@ -13,4 +13,4 @@ pub returns : goal.returns
 returns c = later c.turn.result _ _ (λ y h. where_yes (c.args.scope.now.table ≡ true) (With (slice_get c.args.scope.now.types.now c.args.number) (λ t. Then (Pops (I32 ∷ [])) (Calls t))) y c.args.operands.now _ c.if-not-scope.false
     (with_some _ c.in-Some.callee.now (λ t. Then (Pops (I32 ∷ [])) (Calls t)) y c.args.operands.now _ (sym c.in-Some.ensures)
     (then_yes (Pops (I32 ∷ [])) (Calls c.in-Some.callee.now) c.pop_kind.result y c.args.operands.now c.pop_kind.new.self _ c.pop_kind.ensures c.if-not-pop_kind.false
-      (turns_as c.as_slice.result.now c.as_slice-2.result.now c.in-Some.callee.now.params c.in-Some.callee.now.results y c.pop_kind.new.self _ c.as_slice.ensures c.as_slice-2.ensures h)))) c.turn.ensures
+    (turns_as c.as_slice.result.now c.as_slice-2.result.now c.in-Some.callee.now.params c.in-Some.callee.now.results y c.pop_kind.new.self _ c.as_slice.ensures c.as_slice-2.ensures h)))) c.turn.ensures

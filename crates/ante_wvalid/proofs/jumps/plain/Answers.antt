@@ -1,5 +1,4 @@
-use Rattle.std.proofs.Common.{◌≡◌, sym, subst, List, Option, Bool}
-use Rattle.ante_wtree.specs.declared.instructions.ValueKind.{ValueKind}
+use Rattle.std.proofs.Common.{◌≡◌, sym, subst, Bool}
 use Rattle.ante_wvalid.specs.declared.known.Known.{Known}
 use Rattle.ante_wvalid.specs.declared.scope.Signature.{Signature}
 use Rattle.ante_wvalid.specs.Typing.{InstrType, Moves, type_of}

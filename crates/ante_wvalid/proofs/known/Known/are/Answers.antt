@@ -1,5 +1,4 @@
-use Rattle.std.proofs.Common.{true, false}
-use Rattle.ante_wvalid.proofs.Carrying.{are_no, are_yes, is_nothing, nothing_is}
+use Rattle.ante_wvalid.proofs.Carrying.{are_yes, is_nothing, nothing_is}
 use Rattle.ante_wvalid.proofs.known.Known.are.Goals as goal
 
 pub returns : goal.returns

@@ -1,4 +1,3 @@
-use Rattle.std.proofs.Common.{true, false}
 use Rattle.ante_wvalid.proofs.Carrying.{drops_yes, drops_no}
 use Rattle.ante_wvalid.proofs.known.Known.drop_any.Goals as goal
 

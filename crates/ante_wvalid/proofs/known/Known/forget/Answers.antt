@@ -1,4 +1,4 @@
-use Rattle.std.proofs.Common.{true, false}
+use Rattle.std.proofs.Common.{true}
 use Rattle.std.proofs.Common.{refl}
 use Rattle.ante_wvalid.proofs.Carrying.{forgets}
 use Rattle.ante_wvalid.proofs.known.Known.forget.Goals as goal

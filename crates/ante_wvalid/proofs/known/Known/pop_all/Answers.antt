@@ -1,5 +1,4 @@
-use Rattle.std.proofs.Common.{true, false}
-use Rattle.ante_wvalid.proofs.Carrying.{popping_first, popping_last, popping_more, popping_stops}
+use Rattle.ante_wvalid.proofs.Carrying.{popping_more, popping_stops}
 use Rattle.ante_wvalid.proofs.known.Known.pop_all.Goals as goal
 
 pub returns-then-not-pop_kind : goal.returns-then-not-pop_kind

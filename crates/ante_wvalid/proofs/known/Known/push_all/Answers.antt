@@ -1,5 +1,4 @@
-use Rattle.std.proofs.Common.{true, false}
-use Rattle.ante_wvalid.proofs.Carrying.{pushing_first, pushing_last, none_left, pushing_more}
+use Rattle.ante_wvalid.proofs.Carrying.{pushing_last, none_left, pushing_more}
 use Rattle.ante_wvalid.proofs.known.Known.push_all.Goals as goal
 
 pub kinds-preserved : goal.kinds-preserved

@@ -1,4 +1,4 @@
-use Rattle.std.proofs.Common.{true, false}
+use Rattle.std.proofs.Common.{true}
 use Rattle.ante_wvalid.specs.Typing.{Pops, Pushes}
 use Rattle.ante_wvalid.proofs.Carrying.{then_no, then_yes}
 use Rattle.ante_wvalid.proofs.known.Known.turn.Goals as goal
