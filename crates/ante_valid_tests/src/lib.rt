@@ -2,10 +2,18 @@
 #![tactic(auto)]
 
 #[cfg(test)]
-mod bodies;
+mod blocks;
+#[cfg(test)]
+mod ifs;
+#[cfg(test)]
+mod kinds;
 #[cfg(test)]
 mod modules;
 #[cfg(test)]
 mod sketch;
 #[cfg(test)]
+mod straight;
+#[cfg(test)]
 mod tests;
+#[cfg(test)]
+mod unreachable;

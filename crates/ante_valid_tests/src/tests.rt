@@ -1,6 +1,7 @@
-use super::bodies::{NESTED, OTHERS as BODIES, PLAIN};
-use super::modules::{BASE, KINDS, OTHERS, PAIRS};
+use super::kinds::{BASE, KINDS, PAIRS};
+use super::modules::OTHERS;
 use super::sketch::{Row, Sketch, Step, code, function_type, module};
+use super::{blocks, ifs, straight, unreachable};
 use ante_pack::Seq;
 use ante_wtree::{Code, ExportKind, FuncType, Global, Init, Limits, Module, ValueKind};
 use ante_wvalid::{InvalidKind, ValidateError, validate};
@@ -102,13 +103,22 @@ fn wanted(row: &Row) -> Option<InvalidKind> {
 #[test]
 fn bodies_are_typed_or_not(rt: HostRuntime) -> Result<(), Fail> {
     let alloc = rt.alloc();
-    for row in &PLAIN {
+    for row in &straight::ROWS {
         assert_eq!(rt; row_refusal(alloc, row)?, wanted(row), "{}", row.about);
     }
-    for row in &NESTED {
+    for row in &unreachable::ROWS {
         assert_eq!(rt; row_refusal(alloc, row)?, wanted(row), "{}", row.about);
     }
-    for row in &BODIES {
+    Ok(())
+}
+
+#[test]
+fn nested_bodies_are_typed_or_not(rt: HostRuntime) -> Result<(), Fail> {
+    let alloc = rt.alloc();
+    for row in &blocks::ROWS {
+        assert_eq!(rt; row_refusal(alloc, row)?, wanted(row), "{}", row.about);
+    }
+    for row in &ifs::ROWS {
         assert_eq!(rt; row_refusal(alloc, row)?, wanted(row), "{}", row.about);
     }
     Ok(())

@@ -5,3 +5,4 @@ pub mod Order
 pub mod Own
 pub mod Passing
 pub mod Places
+pub mod Repeating

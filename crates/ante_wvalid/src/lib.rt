@@ -7,6 +7,7 @@ mod imports;
 mod jumps;
 mod kinds;
 mod known;
+mod repeats;
 mod rules;
 mod scope;
 mod stack;

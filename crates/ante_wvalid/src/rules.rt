@@ -1,14 +1,16 @@
-ghost use Rattle.std.specs.Prelude.{◌≡◌, ◌↔◌, ◌⊎◌, ◌+◌, ◌<◌, ◌≤◌, MatchOption, List, [], ◌∷◌, length, Some, slice_get, codes, IsTrue, Any};
+ghost use Rattle.std.specs.Prelude.{◌≡◌, ◌↔◌, ◌⊎◌, ◌+◌, ◌<◌, ◌≤◌, MatchOption, List, [], ◌∷◌, length, Some, slice_get, codes, IsTrue, IfOk, Any};
 ghost use Rattle.ante_wtree.specs.declared.instructions.ValueKind.TheVariants.{I32};
 ghost use Rattle.ante_wtree.specs.Trees.{tree_of};
 ghost use Rattle.ante_wvalid.specs.declared.kinds.ModuleRule.TheVariants as rule;
 ghost use Rattle.ante_wvalid.specs.Modules.{rule_place, Breaks, OutOfBounds, IsConstant, Twice, HasType, IsApply, HasApply, constant_kind, count, function_types};
 
 use crate::kinds::ModuleRule;
+use crate::repeats::export_twice;
 use crate::scope::function_type;
 use ante_wtree::{
     Element, Export, ExportKind, FuncType, Global, Init, Limits, Module, Segment, ValueKind,
 };
+use std::alloc::{AllocError, Global as Heap};
 
 const L: ValueKind = ValueKind::I64;
 
@@ -131,27 +133,6 @@ fn export_index(module: &Module, functions: &[u32]) -> bool
         .any(|export| is_exported_wrongly(module, functions, export))
 }
 
-fn any_named(exports: &[Export], name: &[u8]) -> bool
-    ensures { IsTrue result ↔ Any (λ e. e.name ≡ name.now) exports.now }
-{
-    exports
-        .iter()
-        .any(|export| same_bytes(export.name.as_slice(), name))
-}
-
-fn export_twice(exports: &[Export]) -> bool
-    ensures { IsTrue result ↔ Twice exports.now }
-{
-    let mut rest = exports;
-    'exports: while let Some((export, tail)) = rest.split_first() {
-        if any_named(tail, export.name.as_slice()) {
-            return true;
-        }
-        rest = tail;
-    }
-    false
-}
-
 fn start(module: &Module, functions: &[u32]) -> bool
     requires { functions.now ≡ function_types (tree_of module.now) }
     ensures { IsTrue result ↔ Breaks (tree_of module.now) rule.Start }
@@ -192,22 +173,27 @@ fn segment_memory(module: &Module) -> bool
     !module.segments.as_slice().is_empty() && module.memory.as_slice().is_empty()
 }
 
-fn breaks(module: &Module, functions: &[u32], rule: ModuleRule) -> bool
+fn breaks(
+    alloc: Heap,
+    module: &Module,
+    functions: &[u32],
+    rule: ModuleRule,
+) -> Result<bool, AllocError>
     requires { functions.now ≡ function_types (tree_of module.now) }
-    ensures { IsTrue result ↔ Breaks (tree_of module.now) rule }
+    ensures { IfOk result (λ broken. IsTrue broken ↔ Breaks (tree_of module.now) rule) }
 {
     match rule {
-        ModuleRule::TypeIndex => type_index(module),
-        ModuleRule::Results => results(module),
-        ModuleRule::TwoTables => module.table.len() > 1,
-        ModuleRule::TwoMemories => module.memory.len() > 1,
-        ModuleRule::Bounds => bounds(module),
-        ModuleRule::GlobalInit => global_init(module),
-        ModuleRule::ExportIndex => export_index(module, functions),
-        ModuleRule::ExportTwice => export_twice(module.exports.as_slice()),
-        ModuleRule::Start => start(module, functions),
-        ModuleRule::ElementIndex => element_index(module, functions),
-        ModuleRule::SegmentMemory => segment_memory(module),
+        ModuleRule::TypeIndex => Ok(type_index(module)),
+        ModuleRule::Results => Ok(results(module)),
+        ModuleRule::TwoTables => Ok(module.table.len() > 1),
+        ModuleRule::TwoMemories => Ok(module.memory.len() > 1),
+        ModuleRule::Bounds => Ok(bounds(module)),
+        ModuleRule::GlobalInit => Ok(global_init(module)),
+        ModuleRule::ExportIndex => Ok(export_index(module, functions)),
+        ModuleRule::ExportTwice => export_twice(alloc, module.exports.as_slice()),
+        ModuleRule::Start => Ok(start(module, functions)),
+        ModuleRule::ElementIndex => Ok(element_index(module, functions)),
+        ModuleRule::SegmentMemory => Ok(segment_memory(module)),
     }
 }
 
@@ -230,18 +216,22 @@ fn next(rule: ModuleRule) -> Option<ModuleRule>
 }
 
 /// The first rule that the module breaks.
-pub fn first_broken(module: &Module, functions: &[u32]) -> Option<ModuleRule>
+pub fn first_broken(
+    alloc: Heap,
+    module: &Module,
+    functions: &[u32],
+) -> Result<Option<ModuleRule>, AllocError>
     requires { functions.now ≡ function_types (tree_of module.now) }
-    ensures { MatchOption result ((r : ModuleRule) → Breaks (tree_of module.now) r → ⊥) (λ r. Breaks (tree_of module.now) r × ((s : ModuleRule) → rule_place s < rule_place r → Breaks (tree_of module.now) s → ⊥)) }
+    ensures { IfOk result (λ found. MatchOption found ((r : ModuleRule) → Breaks (tree_of module.now) r → ⊥) (λ r. Breaks (tree_of module.now) r × ((s : ModuleRule) → rule_place s < rule_place r → Breaks (tree_of module.now) s → ⊥))) }
 {
     let mut rule = ModuleRule::TypeIndex;
     'rules: loop {
-        if breaks(module, functions, rule) {
-            return Some(rule);
+        if breaks(alloc, module, functions, rule)? {
+            return Ok(Some(rule));
         }
         match next(rule) {
             Some(after) => rule = after,
-            None => return None,
+            None => return Ok(None),
         }
     }
 }

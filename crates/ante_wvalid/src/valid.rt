@@ -66,7 +66,7 @@ fn first_fault(alloc: Global, module: &Module) -> Result<Option<InvalidKind>, Al
 {
     let all = function_types(alloc, module)?;
     let functions = all.as_slice();
-    if let Some(rule) = first_broken(module, functions) {
+    if let Some(rule) = first_broken(alloc, module, functions)? {
         return Ok(Some(InvalidKind::Rule(rule)));
     }
     if let Some(at) = first_untyped(alloc, module, functions)? {
