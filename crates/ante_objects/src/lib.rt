@@ -1,0 +1,14 @@
+//! The chain's own objects under nested sessions: accounts, permissions, links, recent transactions and references.
+#![tactic(auto)]
+
+mod asked;
+mod authorities;
+mod changes;
+mod history;
+mod keys;
+pub mod laws;
+mod lookups;
+mod objects;
+
+pub use keys::{AccountRow, LinkKey, PermissionRow, RecentKey};
+pub use objects::{Objects, ObjectsMap};
