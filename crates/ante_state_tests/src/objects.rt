@@ -1,4 +1,4 @@
-ghost use Rattle.std.specs.Prelude.{◌≡◌, None};
+ghost use Rattle.ante_undo.specs.Stack.{IsAbove};
 
 use crate::sessions::{Call, Trial, Written, write_stack};
 use ante_objects::{AccountRow, Objects, PermissionRow};
@@ -375,8 +375,16 @@ fn what_asks_for_a_permission_is_found(rt: HostRuntime) -> Result<(), AllocError
     ] {
         let level = level(actor, permission);
         let objects = &trial.state;
-        assert_eq!(rt; objects.has_child(level), child, "child of {actor}.{permission}");
-        assert_eq!(rt; objects.has_link_to(level), link, "link to {actor}.{permission}");
+        assert_eq!(rt;
+            objects.has_child(level),
+            child,
+            "child of {actor}.{permission}"
+        );
+        assert_eq!(rt;
+            objects.has_link_to(level),
+            link,
+            "link to {actor}.{permission}"
+        );
     }
     Ok(())
 }
@@ -396,10 +404,18 @@ fn an_object_is_found_at_its_own_key(rt: HostRuntime) -> Result<(), AllocError> 
         (LAST, LAST, LAST, Some(0)),
     ] {
         let found = objects.link(Name(account), Name(code), Name(action));
-        assert_eq!(rt; found.map(|name| name.0), required, "{account}.{code}.{action}");
+        assert_eq!(rt;
+            found.map(|name| name.0),
+            required,
+            "{account}.{code}.{action}"
+        );
     }
     for (expiration, byte, there) in [(100, 1, true), (100, 2, false), (101, 1, false)] {
-        assert_eq!(rt; objects.recent(expiration, &id(byte)), there, "{expiration}.{byte}");
+        assert_eq!(rt;
+            objects.recent(expiration, &id(byte)),
+            there,
+            "{expiration}.{byte}"
+        );
     }
     for (low, found) in [(7, Some(id(1))), (6, None), (0, None)] {
         assert_eq!(rt; objects.reference(low), found, "block {low}");
@@ -410,7 +426,11 @@ fn an_object_is_found_at_its_own_key(rt: HostRuntime) -> Result<(), AllocError> 
     }
     for (actor, permission, parent) in [(1, 3, Some(2)), (3, 4, None), (2, 3, None)] {
         let found = objects.permission(level(actor, permission));
-        assert_eq!(rt; found.map(|row| row.parent.0), parent, "{actor}.{permission}");
+        assert_eq!(rt;
+            found.map(|row| row.parent.0),
+            parent,
+            "{actor}.{permission}"
+        );
     }
     Ok(())
 }

@@ -1,5 +1,3 @@
-ghost use Rattle.std.specs.Prelude.{◌≡◌, None};
-
 use crate::sessions::{Call, Trial, Written, write_stack};
 use ante_pack::{Bytes, Name, TableKey};
 use ante_rows::{PrimaryRow, Rows, TableRow};
@@ -240,6 +238,7 @@ fn sessions_are_closed_shelved_and_brought_back(rt: HostRuntime) -> Result<(), A
 }
 
 // What the look-ups answer at a primary key of a table: the payer of its row, and the keys at or after, after and before it.
+#[derive(Clone, Copy)]
 struct Case {
     table: u8,
     primary: u64,
@@ -249,18 +248,34 @@ struct Case {
     before: Option<u64>,
 }
 
-fn check_case(rt: &impl Abort, rows: &Rows, case: &Case) {
+fn check_case(rt: &impl Abort, rows: &Rows, case: Case) {
     let key = table(case.table);
     let number = case.table;
     let primary = case.primary;
     let row = rows.row(&key, primary);
-    assert_eq!(rt; row.map(|row| row.payer.0), case.payer, "{primary} in {number}");
+    assert_eq!(rt;
+        row.map(|row| row.payer.0),
+        case.payer,
+        "{primary} in {number}"
+    );
     let from = rows.row_from(&key, primary);
-    assert_eq!(rt; from.map(|row| row.0), case.from, "from {primary} in {number}");
+    assert_eq!(rt;
+        from.map(|row| row.0),
+        case.from,
+        "from {primary} in {number}"
+    );
     let after = rows.row_after(&key, primary);
-    assert_eq!(rt; after.map(|row| row.0), case.after, "after {primary} in {number}");
+    assert_eq!(rt;
+        after.map(|row| row.0),
+        case.after,
+        "after {primary} in {number}"
+    );
     let before = rows.row_before(&key, primary);
-    assert_eq!(rt; before.map(|row| row.0), case.before, "before {primary} in {number}");
+    assert_eq!(rt;
+        before.map(|row| row.0),
+        case.before,
+        "before {primary} in {number}"
+    );
 }
 
 // Rows in three of the tables, some of which were removed or put again in a later session.
@@ -316,7 +331,7 @@ fn neighbours_stay_in_their_table(rt: HostRuntime) -> Result<(), AllocError> {
             after,
             before,
         };
-        check_case(&rt, rows, &case);
+        check_case(&rt, rows, case);
     }
     for (number, last) in [
         (0, None),
@@ -357,7 +372,19 @@ fn check_table(
     after: Option<u64>,
 ) {
     let key = table(number);
-    assert_eq!(rt; rows.table(&key).map(|row| row.payer.0), payer, "table {number}");
-    assert_eq!(rt; rows.table_from(&key).map(|found| found.1.payer.0), from, "from {number}");
-    assert_eq!(rt; rows.table_after(&key).map(|found| found.1.payer.0), after, "after {number}");
+    assert_eq!(rt;
+        rows.table(&key).map(|row| row.payer.0),
+        payer,
+        "table {number}"
+    );
+    assert_eq!(rt;
+        rows.table_from(&key).map(|found| found.1.payer.0),
+        from,
+        "from {number}"
+    );
+    assert_eq!(rt;
+        rows.table_after(&key).map(|found| found.1.payer.0),
+        after,
+        "after {number}"
+    );
 }

@@ -1,4 +1,4 @@
-use Rattle.std.proofs.Common.{◌≡◌, ◌<◌, true, false, T, sym, ap, subst, ◌∙◌, option_map}
+use Rattle.std.proofs.Common.{◌<◌, T, sym, ap, subst, ◌∙◌, option_map}
 use Rattle.std.specs.FinMap.Entries.{is_sorted}
 use Rattle.std.proofs.lemmas.Bool.{ltb-true}
 use Rattle.ante_undo.specs.Entries.{entry_from}
