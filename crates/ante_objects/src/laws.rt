@@ -1,5 +1,4 @@
 // What proofs rest on, each as a function with an empty body: its contract is all that it is for.
-ghost use Rattle.std.specs.Cmp.Lexicographic.{slice_cmp};
 ghost use Rattle.std.specs.Cmp.{IsTotalOrder};
 
 use ante_pack::Level;
