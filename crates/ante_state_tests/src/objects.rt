@@ -110,10 +110,11 @@ fn write_links(objects: &Objects, text: &mut String) -> Result<(), AllocError> {
 fn write_recent(objects: &Objects, text: &mut String) -> Result<(), AllocError> {
     let mut next = objects.next_recent(None);
     for _ in 0..100 {
-        let Some((expiration, id)) = next else { break };
-        let byte = id[0];
+        let Some(found) = next else { break };
+        let expiration = found.0;
+        let byte = found.1[0];
         write!(text, " recent {expiration}.{byte}")?;
-        next = objects.next_recent(Some((expiration, id)));
+        next = objects.next_recent(Some(found));
     }
     Ok(())
 }
@@ -121,8 +122,9 @@ fn write_recent(objects: &Objects, text: &mut String) -> Result<(), AllocError> 
 fn write_references(objects: &Objects, text: &mut String) -> Result<(), AllocError> {
     let mut next = objects.next_reference(None);
     for _ in 0..100 {
-        let Some((low, id)) = next else { break };
-        let byte = id[0];
+        let Some(found) = next else { break };
+        let low = found.0;
+        let byte = found.1[0];
         write!(text, " block {low}={byte}")?;
         next = objects.next_reference(Some(low));
     }
