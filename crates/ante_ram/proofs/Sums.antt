@@ -60,14 +60,14 @@ module _ (cmp : Name → Name → Ordering) where
     free_uses_nothing : (used : ℕ) (quota : ℤ) → is_free used quota ≡ true → used ≡ 0
     free_uses_nothing used quota h = grind (arith, nat_tests)
 
-    used_entry : (used : ℕ) (quota : ℤ) → used_of (entry_of used quota) ≡ used
+    pub used_entry : (used : ℕ) (quota : ℤ) → used_of (entry_of used quota) ≡ used
     used_entry used quota = elim (is_free used quota) as (λ b. is_free used quota ≡ b → used_of (cond b None (Some (record { used = used; quota = quota }))) ≡ used) [
       | true ↦ λ p. sym (free_uses_nothing used quota p)
       | false ↦ λ p. refl
     ] refl
 
     -- the account's old usage goes out of the sum, and its new usage comes in
-    sum_share : (k : Name) (used : ℕ) (quota : ℤ) (es : List (Name × Share)) → T (is_sorted cmp es) → usage_sum (with_share cmp k used quota es) + used_of (find cmp k es) ≡ usage_sum es + used
+    pub sum_share : (k : Name) (used : ℕ) (quota : ℤ) (es : List (Name × Share)) → T (is_sorted cmp es) → usage_sum (with_share cmp k used quota es) + used_of (find cmp k es) ≡ usage_sum es + used
     sum_share k used quota es h = omega (
       arith,
       weight_changed cmp (λ e. e.1.used) (λ k x share tied. refl) o es k (entry_of used quota) h,

@@ -15,12 +15,12 @@ weight_flat g f [] = refl
 weight_flat g f (e ∷ es) = sum_by-append g (f e) (flat_map f es) ∙ ap (λ n. sum_by g (f e) + n) (weight_flat g f es)
 
 module _ {K : Type 0} (cmp : K → K → Ordering) (o : IsTotalOrder cmp) where
-  not_above : (k x : K) (r : Ordering) → cmp k x ≡ r → T (not (is_lt (ordering_reverse r))) → T (not (is_lt (cmp x k)))
+  pub not_above : (k x : K) (r : Ordering) → cmp k x ≡ r → T (not (is_lt (ordering_reverse r))) → T (not (is_lt (cmp x k)))
   not_above k x r p h = subst (λ r. T (not (is_lt r))) (sym (o.antisymm x k ∙ ap ordering_reverse p)) h
 
 module _ {K V : Type 0} (cmp : K → K → Ordering) (o : IsTotalOrder cmp) where
   -- no key after one that isn't below k ties with k
-  absent : (k x : K) (es : List (K × V)) (r : Ordering) → cmp k x ≡ r → T (not (is_lt (cmp x k))) → T (below_all cmp x es) → find cmp k es ≡ None
+  pub absent : (k x : K) (es : List (K × V)) (r : Ordering) → cmp k x ≡ r → T (not (is_lt (cmp x k))) → T (below_all cmp x es) → find cmp k es ≡ None
   absent k x [] r p up h = refl
   absent k x (e ∷ es) Less p up h =
       ap (λ r. cond (is_eq r) (Some e.1) (find cmp k es)) (o.trans k x e.0 p (less _ (first _ _ h))) ∙ absent k x es Less p up (second _ _ h)
