@@ -1,0 +1,56 @@
+-- What each session call makes of a stack whose revisions are counted from one more.
+use Rattle.std.proofs.Common.{◌≡◌, ℕ, ◌+◌, ◌-◌, ◌^◌, ◌≤◌, ◌<◌, List, [], ◌∷◌, ◌++◌, take, drop, length, Option, Some, None, IfSome, option_map, refl, sym, ap, subst, ◌∙◌, arith}
+use Rattle.ante_undo.specs.Stack.{Stack, Shelf, newest, without_newest, maps_of, with_top, with_session, begun, committed, IsSquashed, IsShelved, IsBroughtBack, IsUnshelved, IsAbove, IsSound, IsWithin, without_shelf}
+use Rattle.ante_store.specs.Later.{later, later_shelf, HasRoom}
+
+module _ {M : Type 0} where
+  pub later_undone : (s s2 : Stack M) → s ≡ with_top s.top (begun s2) → later s ≡ with_top (later s).top (begun (later s2))
+  later_undone s s2 e = ap later e
+
+  pub later_squashed : (s s2 : Stack M) → IsSquashed s s2 → IsSquashed (later s) (later s2)
+  later_squashed s s2 h = (h.0, ap later h.1)
+
+  -- a commit up to a revision is one up to the revision below on the stack within; up to 0 it closes nothing
+  pub later_committed : (r : ℕ) (s s2 : Stack M) → length s.under ≤ s.revision → s2 ≡ committed (r - 1) s → later s2 ≡ committed r (later s)
+  later_committed r s s2 h e =
+      ap later e
+      ∙ ap (λ n. record { under = drop n s.under; top = s.top; revision = s.revision + 1; shelf = option_map later_shelf s.shelf }) (omega (arith, h))
+
+  pub later_shelved : (r : ℕ) (s s2 : Stack M) → 1 ≤ r → IsShelved (r - 1) s s2 → IsShelved r (later s) (later s2)
+  later_shelved r s s2 le h = record {
+    maps = h.maps ∙ ap (λ n. without_newest n (maps_of s)) (omega (arith, le));
+    revision = omega (arith, le, h.revision);
+    shelf = ap (option_map later_shelf) h.shelf
+      ∙ ap (λ n. Some (record { revision = n; maps = newest (s.revision - (r - 1)) (maps_of s) })) (omega (arith, le))
+      ∙ ap (λ n. Some (record { revision = r; maps = newest n (maps_of s) })) (omega (arith, le));
+  }
+
+  brought_back : (shelf : Shelf M) (s s2 : Stack M) → IsBroughtBack shelf s s2 → IsBroughtBack (later_shelf shelf) (later s) (later s2)
+  brought_back shelf s s2 h = record {
+    maps = h.maps ∙ ap (λ n. without_newest n (maps_of s) ++ shelf.maps) (omega arith);
+    revision = omega (arith, h.revision);
+    shelf = ap (option_map later_shelf) h.shelf;
+  }
+
+  pub later_unshelved : (s s2 : Stack M) (shelf : Option (Shelf M)) → IfSome shelf (λ shelf. IsBroughtBack shelf s s2) → IfSome (option_map later_shelf shelf) (λ shelf. IsBroughtBack shelf (later s) (later s2))
+  later_unshelved s s2 None h = h
+  later_unshelved s s2 (Some shelf) h = brought_back shelf s s2 h
+
+  pub later_above : (n : ℕ) (s : Stack M) (shelf : Option (Shelf M)) → IfSome (option_map later_shelf shelf) (λ shelf. shelf.revision + n ≤ s.revision + 1) → IfSome shelf (λ shelf. shelf.revision + n ≤ s.revision)
+  later_above n s None h = h
+  later_above n s (Some shelf) h = omega (arith, h)
+
+  pub later_sound : (s : Stack M) → HasRoom s → IsSound s → IsSound (later s)
+  later_sound s room h = record {
+    small = room.small;
+    sessions = omega (arith, h.sessions);
+    shelf = of_shelf s.shelf room.shelf h.shelf;
+  }
+    where
+      of_shelf : (shelf : Option (Shelf M)) → IfSome shelf (λ shelf. shelf.revision + length shelf.maps + 1 < 2 ^ 63) → IfSome shelf (IsWithin s) → IfSome (option_map later_shelf shelf) (IsWithin (later s))
+      of_shelf None room h = h
+      of_shelf (Some shelf) room h = record {
+        from = omega (arith, h.from);
+        since = omega (arith, h.since);
+        small = omega (arith, room);
+      }

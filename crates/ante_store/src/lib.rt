@@ -1,0 +1,2 @@
+//! The whole state of the chain under one set of sessions.
+#![tactic(auto)]
