@@ -1,2 +1,4 @@
 pub mod Later
 pub mod Bills
+pub mod Worlds
+pub mod Changes
