@@ -17,7 +17,6 @@ pub struct Store {
 }
 
 impl Model for Store {
-    ghost use Rattle.std.specs.Prelude.{◌×◌};
     ghost use Rattle.ante_undo.specs.Stack.{Stack};
     ghost use Rattle.ante_sessions.specs.Zipped.{zip_stacks, Alike};
     ghost use Rattle.ante_sessions.specs.Seen.{Throughout};
