@@ -1,10 +1,13 @@
 -- Usage after one bill more went out of it or came into it.
-use Rattle.std.proofs.Common.{◌≡◌, ℕ, ◌+◌, ◌-◌, ◌≤◌, ◌==◌, Bool, true, false, cond, T, ℤ, List, [], ◌∷◌, ◌++◌, Option, Some, None, refl, sym, ap, subst, ◌∙◌, arith, Ordering, Less, Equal, Greater, is_eq}
+use Rattle.std.proofs.Common.{◌≡◌, ℕ, suc, ◌+◌, ◌-◌, ◌≤◌, ◌<◌, ◌^◌, ◌==◌, Bool, true, false, cond, T, ℤ, List, [], ◌∷◌, ◌++◌, length, take, slice_index_or, Option, Some, None, refl, sym, ap, subst, ◌∙◌, arith, Ordering, Less, Equal, Greater, is_eq}
 use Rattle.std.specs.Ordering.{eq_by_cmp, nat_cmp}
 use Rattle.std.specs.Cmp.{IsTotalOrder}
 use Rattle.std.specs.List.{sum_by}
 use Rattle.std.specs.FinMap.Entries.{find, is_sorted}
-use Rattle.std.proofs.lemmas.List.Sums.{sum_by_push}
+use Rattle.std.proofs.lemmas.List.Sums.{sum_by_push, sum_by-take-le}
+use Rattle.std.proofs.Math.Seq.{take-suc}
+use Rattle.ante_ram.proofs.Sums.{used_within}
+use Rattle.ante_undo.specs.Stack.{Stack, with_top}
 use Rattle.ante_undo.specs.Entries.{changed}
 use Rattle.ante_undo.proofs.Entries.{find_changed, sorted_changed}
 use Rattle.ante_sums.specs.Weights.{weight_at}
@@ -72,3 +75,50 @@ module _ (o : IsTotalOrder name_order) (exact : (a b : Name) → name_order a b 
       lowered : (a : Name) (b : Bool) → (k.0 == a.0) ≡ b → cond (k.0 == a.0) (now k mid - size) (now a mid) + cond (k.0 == a.0) size 0 ≡ now a mid
       lowered a true p = ap (λ b. cond b (now k mid - size) (now a mid) + cond b size 0) p ∙ omega (arith, le, ap (λ x. now x mid) (exact k a (is_tied k a p)))
       lowered a false p = ap (λ b. cond b (now k mid - size) (now a mid) + cond b size 0) p ∙ omega arith
+
+-- what a payer pays of a bill of its own
+pays_all : (bill : Name × ℕ) → paid_by bill.0 bill ≡ bill.1
+pays_all bill = grind arith
+
+take_next : {X : Type 0} (xs : List X) (i : ℕ) (d : X) → i < length xs → take (i + 1) xs ≡ take i xs ++ slice_index_or xs i d ∷ []
+take_next xs i d lt = let next : i + 1 ≡ suc i = omega arith in ap (λ n. take n xs) next ∙ take-suc xs i d lt
+
+-- a top over a stack that differs from the first in its top alone
+pub over_top : {M : Type 0} (x : M) (first mid new : Stack M) → new ≡ with_top x mid → mid ≡ with_top mid.top first → new ≡ with_top new.top first
+over_top x first mid new e h = e ∙ ap (with_top x) h ∙ ap (λ t. with_top t first) (sym (ap (λ s. s.top) e))
+
+-- the next of the bills is within what its payer still uses
+pub next_within : (bills : List (Name × ℕ)) (i : ℕ) (d : Name × ℕ) (old mid : List (Name × Share)) → i < length bills → ((a : Name) → paid a bills ≤ used_of (find name_order a old)) → IsRebilled (take i bills) [] old mid →
+    (slice_index_or bills i d).1 ≤ used_of (find name_order (slice_index_or bills i d).0 mid)
+next_within bills i d old mid lt within is =
+    let bill = slice_index_or bills i d in
+    omega (arith,
+      within bill.0,
+      is.used bill.0,
+      sum_by-take-le (paid_by bill.0) bills (i + 1),
+      ap (paid bill.0) (take_next bills i d lt),
+      sum_by_push (paid_by bill.0) (take i bills) bill,
+      pays_all bill)
+
+pub next_fits : (bills : List (Name × ℕ)) (i : ℕ) (d : Name × ℕ) (old mid : List (Name × Share)) → i < length bills → ((a : Name) → paid a bills ≤ used_of (find name_order a old)) → IsRebilled (take i bills) [] old mid → usage_sum old ≤ 2 ^ 62 → (slice_index_or bills i d).1 ≤ 2 ^ 62
+next_fits bills i d old mid lt within is small =
+    let bill = slice_index_or bills i d in
+    omega (arith, next_within bills i d old mid lt within is, is.used bill.0, used_within name_order bill.0 old, small)
+
+module _ (o : IsTotalOrder name_order) (exact : (a b : Name) → name_order a b ≡ Equal → a ≡ b) where
+  -- one turn of the loop that takes bills out, and of the one that adds them
+  pub next_gone : (bills : List (Name × ℕ)) (i : ℕ) (d : Name × ℕ) (old mid : List (Name × Share)) (new : List (Name × Share)) → i < length bills → ((a : Name) → paid a bills ≤ used_of (find name_order a old)) → IsRebilled (take i bills) [] old mid →
+      new ≡ with_share name_order (slice_index_or bills i d).0 (used_of (find name_order (slice_index_or bills i d).0 mid) - (slice_index_or bills i d).1) (quota_of (find name_order (slice_index_or bills i d).0 mid)) mid → IsRebilled (take (i + 1) bills) [] old new
+  next_gone bills i d old mid new lt within is e =
+      let bill = slice_index_or bills i d in
+      subst (λ gone. IsRebilled gone [] old new) (sym (take_next bills i d lt)) (one_gone o exact (take i bills) [] bill.0 bill.1 old mid new (next_within bills i d old mid lt within is) is e)
+
+  pub next_came : (bills : List (Name × ℕ)) (i : ℕ) (d : Name × ℕ) (old mid : List (Name × Share)) (new : List (Name × Share)) → i < length bills → IsRebilled [] (take i bills) old mid →
+      new ≡ with_share name_order (slice_index_or bills i d).0 (used_of (find name_order (slice_index_or bills i d).0 mid) + (slice_index_or bills i d).1) (quota_of (find name_order (slice_index_or bills i d).0 mid)) mid → IsRebilled [] (take (i + 1) bills) old new
+  next_came bills i d old mid new lt is e =
+      let bill = slice_index_or bills i d in
+      subst (λ come. IsRebilled [] come old new) (sym (take_next bills i d lt)) (one_came o exact [] (take i bills) bill.0 bill.1 old mid new is e)
+
+  -- and the sum stays within bounds where the bill was let in
+  pub next_small : (k : Name) (size : ℕ) (mid new : List (Name × Share)) → T (is_sorted name_order mid) → new ≡ with_share name_order k (used_of (find name_order k mid) + size) (quota_of (find name_order k mid)) mid → usage_sum mid + size ≤ 2 ^ 62 → usage_sum new ≤ 2 ^ 62
+  next_small k size mid new sorted e le = omega (arith, ap usage_sum e, sum_share name_order o k (used_of (find name_order k mid) + size) (quota_of (find name_order k mid)) mid sorted, le)

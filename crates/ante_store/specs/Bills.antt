@@ -5,7 +5,7 @@ use Rattle.std.specs.Ordering.{int_eq}
 use Rattle.std.specs.FinMap.Entries.{find, is_sorted}
 use Rattle.ante_pack.specs.declared.names.Name.{Name}
 use Rattle.ante_state.specs.Orders.{name_order}
-use Rattle.ante_types.specs.World.{paid_by}
+use Rattle.ante_types.specs.World.{World, bills, paid_by}
 use Rattle.ante_ram.specs.declared.parts.Share.{Share}
 use Rattle.ante_ram.specs.Usage.{used_of, usage_sum}
 
@@ -31,3 +31,12 @@ pub record IsRebilled (gone come : List (Name × ℕ)) (old new : List (Name × 
   pub used : (account : Name) → used_of (find name_order account new) + paid account gone ≡ used_of (find name_order account old) + paid account come
   pub total : usage_sum new + sizes gone ≡ usage_sum old + sizes come
   pub quotas : quotas_of new ≡ quotas_of old
+
+-- the bills of the entry at a key, if there is one
+abbrev pub bills_at : {K V : Type 0} → (K × V → List (Name × ℕ)) → K → Option V → List (Name × ℕ)
+bills_at of_entry key None = []
+bills_at of_entry key (Some value) = of_entry (key, value)
+
+-- From the one world to the other these bills go, and those come, whatever is summed up of them.
+abbrev pub Rebills : (gone come : List (Name × ℕ)) → World → World → Type 0
+Rebills gone come w w2 = (part : Name × ℕ → ℕ) → sum_by part (bills w2) + sum_by part gone ≡ sum_by part (bills w) + sum_by part come

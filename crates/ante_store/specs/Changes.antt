@@ -1,5 +1,5 @@
 -- What a change makes of the world, and when it is refused.
-use Rattle.std.specs.Prelude.{◌≡◌, ℕ, ◌+◌, ◌-◌, ◌<◌, ◌^◌, ℤ, negsuc, Bool, List, Option, Some, None, Result, Ok, Err, is_some, nat_le, if◌then◌else◌}
+use Rattle.std.specs.Prelude.{◌≡◌, ℕ, ◌+◌, ◌-◌, ◌<◌, ◌^◌, ℤ, negsuc, Bool, false, List, Option, Some, None, Result, Ok, Err, is_some, nat_le, if◌then◌else◌}
 use Rattle.std.specs.Ordering.{nat_cmp}
 use Rattle.std.specs.FinMap.Entries.{find}
 use Rattle.ante_undo.specs.Entries.{changed}

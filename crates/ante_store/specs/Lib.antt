@@ -1,4 +1,3 @@
 pub mod Later
 pub mod Bills
-pub mod Worlds
 pub mod Changes

@@ -1,8 +1,8 @@
 //! The whole state of the chain under one set of sessions, with what each account is billed.
 #![tactic(auto)]
 
+mod billing;
 mod change;
-mod store;
+mod laws;
 
 pub use change::{Change, WriteError};
-pub use store::Store;
