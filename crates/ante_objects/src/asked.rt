@@ -1,13 +1,13 @@
 // Whether something asks for a permission.
 ghost use Rattle.std.specs.Prelude.{◌≡◌, nat_lt};
-ghost use Rattle.ante_objects.specs.Objects.{has_child, has_link_to};
+ghost use Rattle.ante_objects.specs.Objects.{is_child, has_child, asks_for, has_link_to};
 
-use ante_state::LinkKey;
 use crate::laws::{link_order, permission_order};
 use crate::lookups::keyed;
 use crate::objects::Objects;
 use ante_pack::{Level, Name};
 use ante_sessions::next_entry;
+use ante_state::{LinkKey, PermissionRow};
 
 impl Objects {
     /// Whether a permission of the level's account has the level's permission as its parent.
@@ -24,7 +24,7 @@ impl Objects {
             if is_past(level.actor, at.actor) {
                 return false;
             }
-            if at.actor == level.actor && row.parent == level.permission {
+            if is_child(level, at, row) {
                 return true;
             }
             next = self.next_permission(Some(at));
@@ -47,13 +47,25 @@ impl Objects {
             if is_past(level.actor, at.account) {
                 return false;
             }
-            if at.account == level.actor && *requirement == level.permission {
+            if asks_for(level, at, *requirement) {
                 return true;
             }
             next = keyed(next_entry(self.links(), start, Some(at)));
         }
         false
     }
+}
+
+fn is_child(level: Level, at: Level, row: &PermissionRow) -> bool
+    ensures { result ≡ is_child level (at, row.now) }
+{
+    at.actor == level.actor && row.parent == level.permission
+}
+
+fn asks_for(level: Level, at: LinkKey, requirement: Name) -> bool
+    ensures { result ≡ asks_for level (at, requirement) }
+{
+    at.account == level.actor && requirement == level.permission
 }
 
 // Whether the other account comes after the account.

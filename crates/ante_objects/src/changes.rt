@@ -5,10 +5,10 @@ ghost use Rattle.ante_undo.specs.Stack.{with_top, IsAbove};
 ghost use Rattle.ante_undo.specs.Entries.{changed};
 ghost use Rattle.ante_objects.specs.Objects.{with_accounts, with_permissions, with_links, with_recent, with_references};
 
-use ante_state::{AccountRow, LinkKey, PermissionRow, RecentKey};
 use crate::objects::Objects;
 use ante_pack::{Digest, Level, Name};
 use ante_sessions::set_entry;
+use ante_state::{AccountRow, LinkKey, PermissionRow, RecentKey};
 use std::alloc::{AllocError, Global};
 
 impl Objects {
@@ -23,10 +23,8 @@ impl Objects {
         ensures ok { OnOk result (self.new ≡ with_top (with_accounts (changed ⟦<Name as Ord>⟧.cmp self.old.top.accounts name row) self.old.top) self.old) }
         ensures err { OnErr result (self.new ≡ self.old) }
     {
-        let recent = &mut self.kept.inner.first;
-        let links = &mut recent.first;
-        let permissions = &mut links.first;
-        set_entry(alloc, &mut permissions.first, name, row)
+        let first = &mut self.kept.inner.first;
+        set_entry(alloc, &mut first.second, name, row)
     }
 
     /// Puts the permission, or takes it away.
@@ -40,10 +38,8 @@ impl Objects {
         ensures ok { OnOk result (self.new ≡ with_top (with_permissions (changed ⟦<Level as Ord>⟧.cmp self.old.top.permissions level row) self.old.top) self.old) }
         ensures err { OnErr result (self.new ≡ self.old) }
     {
-        let recent = &mut self.kept.inner.first;
-        let links = &mut recent.first;
-        let permissions = &mut links.first;
-        set_entry(alloc, &mut permissions.second, level, row)
+        let first = &mut self.kept.inner.first;
+        first.first.set_permission(alloc, level, row)
     }
 
     /// Links the permission to the contract's action, or takes the link away.
@@ -64,9 +60,8 @@ impl Objects {
             code,
             action,
         };
-        let recent = &mut self.kept.inner.first;
-        let links = &mut recent.first;
-        set_entry(alloc, &mut links.second, key, requirement)
+        let first = &mut self.kept.inner.first;
+        first.first.set_link(alloc, key, requirement)
     }
 
     /// Counts the transaction among the recent ones, or no longer.
@@ -82,8 +77,8 @@ impl Objects {
         ensures err { OnErr result (self.new ≡ self.old) }
     {
         let key = RecentKey { expiration, id };
-        let recent = &mut self.kept.inner.first;
-        set_entry(alloc, &mut recent.second, key, if there { Some(()) } else { None })
+        let parts = &mut self.kept.inner;
+        parts.second.set_recent(alloc, key, there)
     }
 
     /// Puts the id at the low 16 bits of its block's number, or takes what stands there away.
@@ -97,7 +92,7 @@ impl Objects {
         ensures ok { OnOk result (self.new ≡ with_top (with_references (changed nat_cmp self.old.top.references low id) self.old.top) self.old) }
         ensures err { OnErr result (self.new ≡ self.old) }
     {
-        let all = &mut self.kept.inner;
-        set_entry(alloc, &mut all.second, low, id)
+        let parts = &mut self.kept.inner;
+        parts.second.set_reference(alloc, low, id)
     }
 }

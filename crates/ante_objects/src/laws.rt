@@ -1,8 +1,8 @@
 // What proofs rest on, each as a function with an empty body: its contract is all that it is for.
 ghost use Rattle.std.specs.Cmp.{IsTotalOrder};
 
-use ante_state::LinkKey;
 use ante_pack::Level;
+use ante_state::LinkKey;
 
 // The orders of permissions and links, for proofs.
 pub(crate) fn permission_order()

@@ -2,7 +2,9 @@
 #![tactic(auto)]
 
 mod asked;
+mod authorities;
 mod changes;
+mod history;
 mod laws;
 mod lookups;
 mod objects;

@@ -7,10 +7,10 @@ ghost use Rattle.std.specs.FinMap.Entries.{find, is_sorted};
 ghost use Rattle.ante_sessions.specs.Walk.{first_entry, past};
 ghost use Rattle.ante_objects.specs.Objects.{link_key, shown_link, recent_key, shown_recent};
 
-use ante_state::{AccountRow, LinkKey, PermissionRow, RecentKey};
 use crate::objects::Objects;
 use ante_pack::{Digest, Level, Name};
 use ante_sessions::next_entry;
+use ante_state::{AccountRow, LinkKey, PermissionRow, RecentKey};
 
 impl Objects {
     /// The account.
@@ -124,7 +124,7 @@ impl Objects {
 
 // An entry with a copy of its key.
 pub(crate) fn keyed<'a, K: Copy, V>(entry: Option<(&K, &'a V)>) -> Option<(K, &'a V)>
-    ensures { option_map (λ e. (e.0, e.1.now)) result ≡ option_map deref_pair entry }
+    ensures { option_map (λ e. (e.0, e.1.now)) result ≡ option_map deref_pair entry.entry }
 {
     match entry {
         Some((key, value)) => Some((*key, value)),
@@ -145,8 +145,6 @@ fn link_key(link: (Name, Name, Name)) -> LinkKey
 fn recent_key(recent: (u32, Digest)) -> RecentKey
     ensures { result ≡ recent_key recent }
 {
-    RecentKey {
-        expiration: recent.0,
-        id: recent.1,
-    }
+    let (expiration, id) = recent;
+    RecentKey { expiration, id }
 }

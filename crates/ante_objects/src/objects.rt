@@ -1,20 +1,18 @@
 ghost use Rattle.std.specs.Prelude.{◌≡◌, [], ◌<◌, ◌^◌};
 ghost use Rattle.ante_undo.specs.Stack.{opened};
+ghost use Rattle.ante_objects.specs.Shown.{shown_objects};
 
-use ante_state::{AccountRow, LinkKey, PermissionRow, RecentKey};
+use crate::authorities::Authorities;
+use crate::history::History;
 use ante_pack::{Digest, Level, Name};
 use ante_sessions::{Both, Entries, Kept, Sessions, Shape};
+use ante_state::{AccountRow, LinkKey, PermissionRow, RecentKey};
 use ante_undo::Layered;
 use std::alloc::{AllocError, Global};
 use std::marker::{Model, PhantomData};
 
-type Accounts = Layered<Name, AccountRow>;
-type Permissions = Layered<Level, PermissionRow>;
-type Links = Layered<LinkKey, Name>;
-type Recent = Layered<RecentKey, ()>;
-type References = Layered<u16, Digest>;
-
-pub(crate) type Parts = Both<Both<Both<Both<Accounts, Permissions>, Links>, Recent>, References>;
+// Two of the parts are structs of their own: five maps in one chain of pairs take too long to check.
+pub(crate) type Parts = Both<Both<Authorities, Layered<Name, AccountRow>>, History>;
 
 /// The objects as contracts name them. None is ever made.
 pub struct ObjectsMap {
@@ -32,7 +30,7 @@ pub struct ObjectsShape;
 impl Shape<Parts> for ObjectsShape {
     type Shown = ObjectsMap;
 
-    ghost shown = { λ m. record { accounts = m.0.0.0.0; permissions = m.0.0.0.1; links = m.0.0.1; recent = m.0.1; references = m.1 } };
+    ghost shown = { shown_objects };
 
     ghost holds = { λ m. Unit {0} };
 }
@@ -58,57 +56,49 @@ impl Objects {
         requires small { revision < 2 ^ 63 }
         ensures { result ≡ opened (record { accounts = []; permissions = []; links = []; recent = []; references = [] }) revision }
     {
-        let accounts = Both {
-            first: Layered::new(alloc, revision),
-            second: Layered::new(alloc, revision),
-        };
-        let links = Both {
-            first: accounts,
-            second: Layered::new(alloc, revision),
-        };
-        let recent = Both {
-            first: links,
+        let authorities = Both {
+            first: Authorities::new(alloc, revision),
             second: Layered::new(alloc, revision),
         };
         Objects {
             kept: Kept {
                 inner: Both {
-                    first: recent,
-                    second: Layered::new(alloc, revision),
+                    first: authorities,
+                    second: History::new(alloc, revision),
                 },
                 shape: PhantomData,
             },
         }
     }
 
-    pub(crate) fn accounts(&self) -> &Accounts
+    pub(crate) fn accounts(&self) -> &Layered<Name, AccountRow>
         ensures { result.now.top ≡ self.now.top.accounts }
-    {
-        &self.kept.inner.first.first.first.first
-    }
-
-    pub(crate) fn permissions(&self) -> &Permissions
-        ensures { result.now.top ≡ self.now.top.permissions }
-    {
-        &self.kept.inner.first.first.first.second
-    }
-
-    pub(crate) fn links(&self) -> &Links
-        ensures { result.now.top ≡ self.now.top.links }
-    {
-        &self.kept.inner.first.first.second
-    }
-
-    pub(crate) fn all_recent(&self) -> &Recent
-        ensures { result.now.top ≡ self.now.top.recent }
     {
         &self.kept.inner.first.second
     }
 
-    pub(crate) fn references(&self) -> &References
+    pub(crate) fn permissions(&self) -> &Layered<Level, PermissionRow>
+        ensures { result.now.top ≡ self.now.top.permissions }
+    {
+        self.kept.inner.first.first.permissions()
+    }
+
+    pub(crate) fn links(&self) -> &Layered<LinkKey, Name>
+        ensures { result.now.top ≡ self.now.top.links }
+    {
+        self.kept.inner.first.first.links()
+    }
+
+    pub(crate) fn all_recent(&self) -> &Layered<RecentKey, ()>
+        ensures { result.now.top ≡ self.now.top.recent }
+    {
+        self.kept.inner.second.recent()
+    }
+
+    pub(crate) fn references(&self) -> &Layered<u16, Digest>
         ensures { result.now.top ≡ self.now.top.references }
     {
-        &self.kept.inner.second
+        self.kept.inner.second.references()
     }
 }
 
