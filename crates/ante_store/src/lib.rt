@@ -4,5 +4,8 @@
 mod billing;
 mod change;
 mod laws;
+mod parts;
+mod store;
 
 pub use change::{Change, WriteError};
+pub use store::Store;
