@@ -51,3 +51,7 @@ pub record IsBilled (m : Maps) : Type 0 where
   pub small : usage_sum m.1 ≤ 2 ^ 62
   pub counted : (table : TableKey) → weight_of (of_table table) m.0.0.rows ≡ count_of (find table_order table m.0.0.tables)
   pub some : (table : TableKey) → IfSome (find table_order table m.0.0.tables) (λ t. 0 < t.count)
+
+-- no account, no table, nothing
+abbrev pub no_world : World
+no_world = record { accounts = []; permissions = []; links = []; quotas = []; recent = []; references = []; tables = []; rows = [] }

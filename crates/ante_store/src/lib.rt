@@ -8,4 +8,4 @@ mod parts;
 mod store;
 
 pub use change::{Change, WriteError};
-pub use store::Store;
+pub use store::{Store, WorldMap};

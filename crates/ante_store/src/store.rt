@@ -29,6 +29,21 @@ impl Model for Store {
     ghost invariant = { λ s. Throughout IsBilled s.parts × HasRoom s.parts };
 }
 
+/// The world as contracts name it. None is ever made.
+#[derive(Drop)]
+pub struct WorldMap {
+    _none: (),
+}
+
+impl Model for WorldMap {
+    ghost use Rattle.ante_types.specs.World.{World};
+    ghost use Rattle.ante_store.specs.Worlds.{no_world};
+
+    ghost Value = { World };
+
+    ghost view = { λ s. no_world };
+}
+
 impl Store {
     /// The tables and their rows.
     pub fn rows(&self) -> &Rows
@@ -36,5 +51,49 @@ impl Store {
         ensures rows { result.now.top.rows ≡ self.now.top.rows }
     {
         &self.parts.first.first
+    }
+}
+
+// The parts count their revisions from one less, so that a change can always begin a session of its own inside.
+impl Sessions for Store {
+    type Map = WorldMap;
+
+    ghost stack = { λ s. s };
+
+    fn begin(&mut self, alloc: Global) -> Result<u64, AllocError> {
+        let inner = self.parts.begin(alloc)?;
+        Ok(inner + 1)
+    }
+
+    fn undo(&mut self) {
+        self.parts.undo();
+    }
+
+    fn squash(&mut self) {
+        self.parts.squash();
+    }
+
+    fn commit(&mut self, revision: u64) {
+        self.parts.commit(revision.saturating_sub(1));
+    }
+
+    fn shelve(&mut self, revision: u64) {
+        self.parts.shelve(revision - 1);
+    }
+
+    fn unshelve(&mut self) {
+        self.parts.unshelve();
+    }
+
+    fn drop_shelf(&mut self) {
+        self.parts.drop_shelf();
+    }
+
+    fn revision(&self) -> u64 {
+        self.parts.revision() + 1
+    }
+
+    fn sessions(&self) -> u64 {
+        self.parts.sessions()
     }
 }
