@@ -1,6 +1,7 @@
 -- What each session call makes of a stack whose revisions are counted from one more.
-use Rattle.std.proofs.Common.{◌≡◌, ℕ, ◌+◌, ◌-◌, ◌^◌, ◌≤◌, ◌<◌, List, [], ◌∷◌, ◌++◌, take, drop, length, Option, Some, None, IfSome, option_map, refl, sym, ap, subst, ◌∙◌, arith}
+use Rattle.std.proofs.Common.{◌≡◌, ℕ, ◌+◌, ◌-◌, ◌^◌, ◌≤◌, ◌<◌, List, [], ◌∷◌, ◌++◌, take, drop, length, Option, Some, None, IfSome, IsSome, option_map, refl, sym, ap, subst, ◌∙◌, arith}
 use Rattle.ante_undo.specs.Stack.{Stack, Shelf, newest, without_newest, maps_of, with_top, with_session, begun, committed, IsSquashed, IsShelved, IsBroughtBack, IsUnshelved, IsAbove, IsSound, IsWithin, without_shelf}
+use Rattle.std.proofs.lemmas.List.{length-append, length-drop}
 use Rattle.ante_store.specs.Later.{later, later_shelf, HasRoom}
 
 module _ {M : Type 0} where
@@ -53,4 +54,38 @@ module _ {M : Type 0} where
         from = omega (arith, h.from);
         since = omega (arith, h.since);
         small = omega (arith, room);
+      }
+
+  -- ---- room is kept
+
+  room_of : (s s2 : Stack M) → s2.revision ≤ s.revision → s2.shelf ≡ s.shelf → HasRoom s → HasRoom s2
+  room_of s s2 le e room = record {
+    small = omega (arith, le, room.small);
+    shelf = subst (λ shelf. IfSome shelf (λ shelf. shelf.revision + length shelf.maps + 1 < 2 ^ 63)) (sym e) room.shelf;
+  }
+
+  pub room_begun : (s s2 : Stack M) → s2 ≡ begun s → s.revision + 1 + 1 < 2 ^ 63 → HasRoom s → HasRoom s2
+  room_begun s s2 e small room = subst HasRoom (sym e) (record { small = small; shelf = room.shelf })
+
+  pub room_undone : (s s2 : Stack M) → s ≡ with_top s.top (begun s2) → HasRoom s → HasRoom s2
+  room_undone s s2 e room = room_of s s2 (omega (arith, ap (λ t. t.revision) e)) (sym (ap (λ t. t.shelf) e)) room
+
+  pub room_squashed : (s s2 : Stack M) → IsSquashed s s2 → HasRoom s → HasRoom s2
+  room_squashed s s2 h room = room_of s s2 (omega (arith, ap (λ t. t.revision) h.1)) (sym (ap (λ t. t.shelf) h.1)) room
+
+  pub room_shelved : (r : ℕ) (s s2 : Stack M) → r ≤ s.revision → IsShelved r s s2 → HasRoom s → HasRoom s2
+  room_shelved r s s2 le h room = record {
+    small = omega (arith, h.revision, le, room.small);
+    shelf = subst (λ shelf. IfSome shelf (λ shelf. shelf.revision + length shelf.maps + 1 < 2 ^ 63)) (sym h.shelf)
+      (omega (arith, length-drop (length (maps_of s) - (s.revision - r)) (maps_of s), le, room.small));
+  }
+
+  pub room_unshelved : (s s2 : Stack M) (shelf : Option (Shelf M)) → s.shelf ≡ shelf → IsSome shelf → IsUnshelved s s2 → HasRoom s → HasRoom s2
+  room_unshelved s s2 None e there h room = absurd there
+  room_unshelved s s2 (Some back) e there h room =
+      let h2 : IsBroughtBack back s s2 = subst (λ shelf. IfSome shelf (λ shelf. IsBroughtBack shelf s s2)) e h in
+      let room2 : back.revision + length back.maps + 1 < 2 ^ 63 = subst (λ shelf. IfSome shelf (λ shelf. shelf.revision + length shelf.maps + 1 < 2 ^ 63)) e room.shelf in
+      record {
+        small = omega (arith, h2.revision, room2);
+        shelf = subst (λ shelf. IfSome shelf (λ shelf. shelf.revision + length shelf.maps + 1 < 2 ^ 63)) (sym h2.shelf) tt;
       }
