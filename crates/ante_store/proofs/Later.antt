@@ -1,5 +1,5 @@
 -- What each session call makes of a stack whose revisions are counted from one more.
-use Rattle.std.proofs.Common.{◌≡◌, ℕ, ◌+◌, ◌-◌, ◌^◌, ◌≤◌, ◌<◌, List, [], ◌∷◌, ◌++◌, take, drop, length, Option, Some, None, IfSome, IsSome, option_map, refl, sym, ap, subst, ◌∙◌, arith}
+use Rattle.std.proofs.Common.{◌≡◌, ℕ, ◌+◌, ◌-◌, ◌^◌, ◌≤◌, ◌<◌, List, [], ◌∷◌, ◌++◌, take, drop, length, Option, Some, None, IfSome, IsSome, option_map, true≢false, refl, sym, ap, subst, ◌∙◌, arith}
 use Rattle.ante_undo.specs.Stack.{Stack, Shelf, newest, without_newest, maps_of, with_top, with_session, begun, committed, IsSquashed, IsShelved, IsBroughtBack, IsUnshelved, IsAbove, IsSound, IsWithin, without_shelf}
 use Rattle.std.proofs.lemmas.List.{length-append, length-drop}
 use Rattle.ante_store.specs.Later.{later, later_shelf, HasRoom}
@@ -81,7 +81,7 @@ module _ {M : Type 0} where
   }
 
   pub room_unshelved : (s s2 : Stack M) (shelf : Option (Shelf M)) → s.shelf ≡ shelf → IsSome shelf → IsUnshelved s s2 → HasRoom s → HasRoom s2
-  room_unshelved s s2 None e there h room = absurd there
+  room_unshelved s s2 None e there h room = absurd (true≢false (sym there))
   room_unshelved s s2 (Some back) e there h room =
       let h2 : IsBroughtBack back s s2 = subst (λ shelf. IfSome shelf (λ shelf. IsBroughtBack shelf s s2)) e h in
       let room2 : back.revision + length back.maps + 1 < 2 ^ 63 = subst (λ shelf. IfSome shelf (λ shelf. shelf.revision + length shelf.maps + 1 < 2 ^ 63)) e room.shelf in

@@ -1,33 +1,14 @@
-ghost use Rattle.std.specs.Prelude.{◌≡◌, ℕ, ◌+◌, ◌<◌, ◌≤◌, ◌^◌, length, OnOk, OnErr, IfOk};
+ghost use Rattle.std.specs.Prelude.{◌≡◌, ◌<◌, length, true};
 ghost use Rattle.ante_undo.specs.Stack.{Stack, opened, with_top, begun, committed, IsSquashed, without_shelf, IsShelved, IsUnshelved, IsAbove, IsSound};
+ghost use Rattle.ante_store.specs.Worlds.{world_of, IsBilled};
 
 use crate::parts::Parts;
 use ante_objects::Objects;
 use ante_ram::Usage;
 use ante_rows::Rows;
-use ante_sessions::Sessions;
+use ante_sessions::{Kept, Sessions, Shape};
 use std::alloc::{AllocError, Global};
-use std::marker::Model;
-
-/// The whole state of the chain under nested sessions. Contracts see a stack of worlds.
-#[derive(Drop)]
-pub struct Store {
-    parts: Parts,
-}
-
-impl Model for Store {
-    ghost use Rattle.ante_undo.specs.Stack.{Stack};
-    ghost use Rattle.ante_sessions.specs.Seen.{map_stack, Throughout};
-    ghost use Rattle.ante_types.specs.World.{World};
-    ghost use Rattle.ante_store.specs.Worlds.{world_of, IsBilled};
-    ghost use Rattle.ante_store.specs.Later.{later, HasRoom};
-
-    ghost Value = { Stack World };
-
-    ghost view = { λ s. later (map_stack world_of s.parts) };
-
-    ghost invariant = { λ s. Throughout IsBilled s.parts × HasRoom s.parts };
-}
+use std::marker::{Model, PhantomData};
 
 /// The world as contracts name it. None is ever made.
 #[derive(Drop)]
@@ -44,13 +25,49 @@ impl Model for WorldMap {
     ghost view = { λ s. no_world };
 }
 
+/// Rows, objects and usage seen as a world, in which usage is what is billed.
+pub struct WorldShape;
+
+impl Shape<Parts> for WorldShape {
+    type Shown = WorldMap;
+
+    ghost shown = { world_of };
+
+    ghost holds = { IsBilled };
+}
+
+/// The whole state of the chain under nested sessions. Contracts see a stack of worlds.
+#[derive(Drop)]
+pub struct Store {
+    kept: Kept<Parts, WorldShape>,
+}
+
+impl Model for Store {
+    ghost use Rattle.ante_undo.specs.Stack.{Stack};
+    ghost use Rattle.ante_types.specs.World.{World};
+    ghost use Rattle.ante_store.specs.Later.{later, HasRoom};
+
+    ghost Value = { Stack World };
+
+    ghost view = { λ s. later s.kept };
+
+    ghost invariant = { λ s. HasRoom s.kept };
+}
+
 impl Store {
     /// The tables and their rows.
     pub fn rows(&self) -> &Rows
         ensures tables { result.now.top.tables ≡ self.now.top.tables }
         ensures rows { result.now.top.rows ≡ self.now.top.rows }
     {
-        &self.parts.first.first
+        &self.kept.inner.first.first
+    }
+
+    // That each open session has a revision of its own above the first one, which is 1 at least.
+    fn is_numbered(&self) -> bool
+        ensures { (result ≡ true) × (length self.now.under < self.now.revision) }
+    {
+        self.kept.sessions() <= self.kept.revision()
     }
 }
 
@@ -61,39 +78,41 @@ impl Sessions for Store {
     ghost stack = { λ s. s };
 
     fn begin(&mut self, alloc: Global) -> Result<u64, AllocError> {
-        let inner = self.parts.begin(alloc)?;
+        let inner = self.kept.begin(alloc)?;
         Ok(inner + 1)
     }
 
     fn undo(&mut self) {
-        self.parts.undo();
+        self.kept.undo();
     }
 
     fn squash(&mut self) {
-        self.parts.squash();
+        self.kept.squash();
     }
 
     fn commit(&mut self, revision: u64) {
-        self.parts.commit(revision.saturating_sub(1));
+        prove!(self.is_numbered());
+        self.kept.commit(revision.saturating_sub(1));
     }
 
     fn shelve(&mut self, revision: u64) {
-        self.parts.shelve(revision - 1);
+        prove!(self.is_numbered());
+        self.kept.shelve(revision - 1);
     }
 
     fn unshelve(&mut self) {
-        self.parts.unshelve();
+        self.kept.unshelve();
     }
 
     fn drop_shelf(&mut self) {
-        self.parts.drop_shelf();
+        self.kept.drop_shelf();
     }
 
     fn revision(&self) -> u64 {
-        self.parts.revision() + 1
+        self.kept.revision() + 1
     }
 
     fn sessions(&self) -> u64 {
-        self.parts.sessions()
+        self.kept.sessions()
     }
 }
