@@ -1,7 +1,7 @@
 -- What each session call makes of a stack whose revisions are counted from one more.
-use Rattle.std.proofs.Common.{◌≡◌, ℕ, ◌+◌, ◌-◌, ◌^◌, ◌≤◌, ◌<◌, List, [], ◌∷◌, ◌++◌, take, drop, length, Option, Some, None, IfSome, IsSome, option_map, true≢false, refl, sym, ap, subst, ◌∙◌, arith}
-use Rattle.ante_undo.specs.Stack.{Stack, Shelf, newest, without_newest, maps_of, with_top, with_session, begun, committed, IsSquashed, IsShelved, IsBroughtBack, IsUnshelved, IsAbove, IsSound, IsWithin, without_shelf}
-use Rattle.std.proofs.lemmas.List.{length-append, length-drop}
+use Rattle.std.proofs.Common.{◌≡◌, ℕ, ◌+◌, ◌-◌, ◌^◌, ◌≤◌, ◌<◌, ◌++◌, drop, length, Option, Some, None, IfSome, IsSome, option_map, true≢false, sym, ap, subst, ◌∙◌, arith}
+use Rattle.ante_undo.specs.Stack.{Stack, Shelf, newest, without_newest, maps_of, with_top, begun, committed, IsSquashed, IsShelved, IsBroughtBack, IsUnshelved, IsSound, IsWithin}
+use Rattle.std.proofs.lemmas.List.{length-drop}
 use Rattle.ante_store.specs.Later.{later, later_shelf, HasRoom}
 
 module _ {M : Type 0} where
@@ -22,8 +22,8 @@ module _ {M : Type 0} where
     maps = h.maps ∙ ap (λ n. without_newest n (maps_of s)) (omega (arith, le));
     revision = omega (arith, le, h.revision);
     shelf = ap (option_map later_shelf) h.shelf
-      ∙ ap (λ n. Some (record { revision = n; maps = newest (s.revision - (r - 1)) (maps_of s) })) (omega (arith, le))
-      ∙ ap (λ n. Some (record { revision = r; maps = newest n (maps_of s) })) (omega (arith, le));
+        ∙ ap (λ n. Some (record { revision = n; maps = newest (s.revision - (r - 1)) (maps_of s) })) (omega (arith, le))
+        ∙ ap (λ n. Some (record { revision = r; maps = newest n (maps_of s) })) (omega (arith, le));
   }
 
   brought_back : (shelf : Shelf M) (s s2 : Stack M) → IsBroughtBack shelf s s2 → IsBroughtBack (later_shelf shelf) (later s) (later s2)
@@ -77,7 +77,7 @@ module _ {M : Type 0} where
   room_shelved r s s2 le h room = record {
     small = omega (arith, h.revision, le, room.small);
     shelf = subst (λ shelf. IfSome shelf (λ shelf. shelf.revision + length shelf.maps + 1 < 2 ^ 63)) (sym h.shelf)
-      (omega (arith, length-drop (length (maps_of s) - (s.revision - r)) (maps_of s), le, room.small));
+        (omega (arith, length-drop (length (maps_of s) - (s.revision - r)) (maps_of s), le, room.small));
   }
 
   pub room_unshelved : (s s2 : Stack M) (shelf : Option (Shelf M)) → s.shelf ≡ shelf → IsSome shelf → IsUnshelved s s2 → HasRoom s → HasRoom s2

@@ -1,5 +1,5 @@
 -- Quotas after a change of one account's share.
-use Rattle.std.proofs.Common.{◌≡◌, ℕ, ℤ, negsuc, Bool, true, false, cond, not, ◌&&◌, ◌==◌, T, List, [], ◌∷◌, Option, Some, None, refl, sym, ap, subst, ◌∙◌, Ordering, Less, Equal, Greater, is_lt, is_eq}
+use Rattle.std.proofs.Common.{◌≡◌, ℕ, ℤ, negsuc, Bool, true, false, cond, ◌&&◌, ◌==◌, T, List, [], ◌∷◌, Some, None, refl, sym, ap, ◌∙◌, Ordering, Less, Equal, Greater, is_eq}
 use Rattle.std.specs.Ordering.{int_eq, eq_by_cmp}
 use Rattle.std.specs.Cmp.{IsTotalOrder}
 use Rattle.std.specs.FinMap.Entries.{find, is_sorted, below_all, same_entries}
@@ -81,10 +81,10 @@ module _ (cmp : Name → Name → Ordering) where
     quotas_share exact k used quota es h =
         let after = sorted_changed cmp o es k (entry_of used quota) h in
         same_entries cmp o exact _ _ (sorted_quotas _ after) (sorted_changed cmp o (quotas_of es) k (limit quota) (sorted_quotas es h)) (λ q.
-          find_quotas q _ after
-          ∙ ap (λ share. limit (quota_of share)) (find_changed cmp o es k (entry_of used quota) q)
-          ∙ by_test (eq_by_cmp cmp q k) q
-          ∙ sym (find_changed cmp o (quotas_of es) k (limit quota) q))
+        find_quotas q _ after
+        ∙ ap (λ share. limit (quota_of share)) (find_changed cmp o es k (entry_of used quota) q)
+        ∙ by_test (eq_by_cmp cmp q k) q
+        ∙ sym (find_changed cmp o (quotas_of es) k (limit quota) q))
       where
         by_test : (b : Bool) (q : Name) → limit (quota_of (cond b (entry_of used quota) (find cmp q es))) ≡ cond b (limit quota) (find cmp q (quotas_of es))
         by_test true q = ap limit (quota_entry used quota)
@@ -95,9 +95,9 @@ module _ (cmp : Name → Name → Ordering) where
     quotas_stand exact k used es h =
         quotas_share exact k used (quota_of (find cmp k es)) es h
         ∙ same_entries cmp o exact _ _ (sorted_changed cmp o (quotas_of es) k _ (sorted_quotas es h)) (sorted_quotas es h) (λ q.
-          find_changed cmp o (quotas_of es) k (limit (quota_of (find cmp k es))) q
-          ∙ ap (λ found. cond (eq_by_cmp cmp q k) found (find cmp q (quotas_of es))) (sym (find_quotas k es h))
-          ∙ by_key q (eq_by_cmp cmp q k) refl)
+        find_changed cmp o (quotas_of es) k (limit (quota_of (find cmp k es))) q
+        ∙ ap (λ found. cond (eq_by_cmp cmp q k) found (find cmp q (quotas_of es))) (sym (find_quotas k es h))
+        ∙ by_key q (eq_by_cmp cmp q k) refl)
       where
         by_key : (q : Name) (b : Bool) → eq_by_cmp cmp q k ≡ b → cond b (find cmp k (quotas_of es)) (find cmp q (quotas_of es)) ≡ find cmp q (quotas_of es)
         by_key q true p = ap (λ x. find cmp x (quotas_of es)) (sym (exact q k (tied (cmp q k) p)))

@@ -1,24 +1,20 @@
 -- Usage after one bill more went out of it or came into it.
-use Rattle.std.proofs.Common.{◌≡◌, ℕ, suc, ◌+◌, ◌-◌, ◌≤◌, ◌<◌, ◌^◌, ◌==◌, Bool, true, false, cond, T, ℤ, List, [], ◌∷◌, ◌++◌, length, take, slice_index_or, Option, Some, None, refl, sym, ap, subst, ◌∙◌, arith, Ordering, Less, Equal, Greater, is_eq}
-use Rattle.std.specs.Ordering.{eq_by_cmp, nat_cmp}
+use Rattle.std.proofs.Common.{◌≡◌, ℕ, suc, ◌+◌, ◌-◌, ◌≤◌, ◌<◌, ◌^◌, ◌==◌, Bool, true, false, cond, T, ℤ, List, [], ◌∷◌, ◌++◌, length, take, slice_index_or, refl, sym, ap, subst, ◌∙◌, arith, Equal}
+use Rattle.std.specs.Ordering.{eq_by_cmp}
 use Rattle.std.specs.Cmp.{IsTotalOrder}
-use Rattle.std.specs.List.{sum_by}
 use Rattle.std.specs.FinMap.Entries.{find, is_sorted}
 use Rattle.std.proofs.lemmas.List.Sums.{sum_by_push, sum_by-take-le}
 use Rattle.std.proofs.Math.Seq.{take-suc}
 use Rattle.ante_ram.proofs.Sums.{used_within}
 use Rattle.ante_undo.specs.Stack.{Stack, with_top}
-use Rattle.ante_undo.specs.Entries.{changed}
 use Rattle.ante_undo.proofs.Entries.{find_changed, sorted_changed}
-use Rattle.ante_sums.specs.Weights.{weight_at}
-use Rattle.ante_sums.proofs.Changed.{weight_changed}
 use Rattle.ante_pack.specs.declared.names.Name.{Name}
 use Rattle.ante_state.specs.Orders.{name_order}
 use Rattle.ante_types.specs.World.{paid_by}
 use Rattle.ante_ram.specs.declared.parts.Share.{Share}
 use Rattle.ante_ram.specs.Usage.{used_of, quota_of, usage_sum, entry_of, with_share}
 use Rattle.ante_ram.proofs.Sums.{used_entry, sum_share}
-use Rattle.ante_store.specs.Bills.{quotas_of, paid, sizes, IsRebilled}
+use Rattle.ante_store.specs.Bills.{quotas_of, paid, IsRebilled}
 use Rattle.ante_store.proofs.Quotas.{quotas_stand}
 
 -- an account is the payer exactly where their names tie
@@ -50,9 +46,14 @@ module _ (o : IsTotalOrder name_order) (exact : (a b : Name) → name_order a b 
   pub one_came : (gone come : List (Name × ℕ)) (k : Name) (size : ℕ) (old mid new : List (Name × Share)) → IsRebilled gone come old mid → new ≡ with_share name_order k (now k mid + size) (quota_now k mid) mid → IsRebilled gone (come ++ (k, size) ∷ []) old new
   one_came gone come k size old mid new is e = record {
     sorted = subst (λ m. T (is_sorted name_order m)) (sym e) (sorted_changed name_order o mid k (entry_of (now k mid + size) (quota_now k mid)) is.sorted);
-    used = λ a. omega (arith,
-      ap (λ m. now a m) e, used_after k (now k mid + size) (quota_now k mid) mid a, is.used a,
-      sum_by_push (paid_by a) come (k, size), raised a (k.0 == a.0) refl);
+    used = λ a. omega (
+      arith,
+      ap (λ m. now a m) e,
+      used_after k (now k mid + size) (quota_now k mid) mid a,
+      is.used a,
+      sum_by_push (paid_by a) come (k, size),
+      raised a (k.0 == a.0) refl,
+    );
     total = omega (arith, ap usage_sum e, sum_share name_order o k (now k mid + size) (quota_now k mid) mid is.sorted, is.total, sum_by_push (λ bill. bill.1) come (k, size));
     quotas = ap quotas_of e ∙ quotas_stand name_order o exact k (now k mid + size) mid is.sorted ∙ is.quotas;
   }
@@ -65,9 +66,14 @@ module _ (o : IsTotalOrder name_order) (exact : (a b : Name) → name_order a b 
   pub one_gone : (gone come : List (Name × ℕ)) (k : Name) (size : ℕ) (old mid new : List (Name × Share)) → size ≤ now k mid → IsRebilled gone come old mid → new ≡ with_share name_order k (now k mid - size) (quota_now k mid) mid → IsRebilled (gone ++ (k, size) ∷ []) come old new
   one_gone gone come k size old mid new le is e = record {
     sorted = subst (λ m. T (is_sorted name_order m)) (sym e) (sorted_changed name_order o mid k (entry_of (now k mid - size) (quota_now k mid)) is.sorted);
-    used = λ a. omega (arith,
-      ap (λ m. now a m) e, used_after k (now k mid - size) (quota_now k mid) mid a, is.used a,
-      sum_by_push (paid_by a) gone (k, size), lowered a (k.0 == a.0) refl);
+    used = λ a. omega (
+      arith,
+      ap (λ m. now a m) e,
+      used_after k (now k mid - size) (quota_now k mid) mid a,
+      is.used a,
+      sum_by_push (paid_by a) gone (k, size),
+      lowered a (k.0 == a.0) refl,
+    );
     total = omega (arith, ap usage_sum e, sum_share name_order o k (now k mid - size) (quota_now k mid) mid is.sorted, is.total, sum_by_push (λ bill. bill.1) gone (k, size), le);
     quotas = ap quotas_of e ∙ quotas_stand name_order o exact k (now k mid - size) mid is.sorted ∙ is.quotas;
   }
@@ -92,13 +98,15 @@ pub next_within : (bills : List (Name × ℕ)) (i : ℕ) (d : Name × ℕ) (old 
     (slice_index_or bills i d).1 ≤ used_of (find name_order (slice_index_or bills i d).0 mid)
 next_within bills i d old mid lt within is =
     let bill = slice_index_or bills i d in
-    omega (arith,
+    omega (
+      arith,
       within bill.0,
       is.used bill.0,
       sum_by-take-le (paid_by bill.0) bills (i + 1),
       ap (paid bill.0) (take_next bills i d lt),
       sum_by_push (paid_by bill.0) (take i bills) bill,
-      pays_all bill)
+      pays_all bill,
+    )
 
 pub next_fits : (bills : List (Name × ℕ)) (i : ℕ) (d : Name × ℕ) (old mid : List (Name × Share)) → i < length bills → ((a : Name) → paid a bills ≤ used_of (find name_order a old)) → IsRebilled (take i bills) [] old mid → usage_sum old ≤ 2 ^ 62 → (slice_index_or bills i d).1 ≤ 2 ^ 62
 next_fits bills i d old mid lt within is small =

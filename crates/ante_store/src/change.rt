@@ -19,8 +19,14 @@ pub enum Change {
         bytes: Bytes,
     },
     /// A row goes, and with the last row of a table its table object.
-    RemoveRow { table: TableKey, primary: u64 },
-    SetAccount { name: Name, row: AccountRow },
+    RemoveRow {
+        table: TableKey,
+        primary: u64,
+    },
+    SetAccount {
+        name: Name,
+        row: AccountRow,
+    },
     SetPermission {
         level: Level,
         row: Option<PermissionRow>,
@@ -32,13 +38,19 @@ pub enum Change {
         requirement: Option<Name>,
     },
     /// The memory that an account may use; -1 is no limit.
-    SetQuota { account: Name, quota: i64 },
+    SetQuota {
+        account: Name,
+        quota: i64,
+    },
     SetRecent {
         expiration: u32,
         id: Digest,
         there: bool,
     },
-    SetReference { low: u16, id: Digest },
+    SetReference {
+        low: u16,
+        id: Digest,
+    },
 }
 
 /// Why a change isn't made.

@@ -1,5 +1,10 @@
 ghost use Rattle.std.specs.Prelude.{◌≡◌, ◌<◌, length, true};
-ghost use Rattle.ante_undo.specs.Stack.{Stack, opened, with_top, begun, committed, IsSquashed, without_shelf, IsShelved, IsUnshelved, IsAbove, IsSound};
+ghost use Rattle.std.specs.FinMap.Entries.{find};
+ghost use Rattle.ante_pack.specs.declared.names.Name.{Name};
+ghost use Rattle.ante_state.specs.Orders.{name_order};
+ghost use Rattle.ante_types.specs.World.{used};
+ghost use Rattle.ante_ram.specs.Usage.{used_of};
+ghost use Rattle.ante_store.specs.Bills.{quotas_of};
 ghost use Rattle.ante_store.specs.Worlds.{world_of, IsBilled};
 
 use crate::parts::Parts;
@@ -8,7 +13,7 @@ use ante_ram::Usage;
 use ante_rows::Rows;
 use ante_sessions::{Kept, Sessions, Shape};
 use std::alloc::{AllocError, Global};
-use std::marker::{Model, PhantomData};
+use std::marker::Model;
 
 /// The world as contracts name it. None is ever made.
 #[derive(Drop)]
@@ -61,6 +66,25 @@ impl Store {
         ensures rows { result.now.top.rows ≡ self.now.top.rows }
     {
         &self.kept.inner.first.first
+    }
+
+    /// The chain's own objects.
+    pub fn objects(&self) -> &Objects
+        ensures accounts { result.now.top.accounts ≡ self.now.top.accounts }
+        ensures permissions { result.now.top.permissions ≡ self.now.top.permissions }
+        ensures links { result.now.top.links ≡ self.now.top.links }
+        ensures recent { result.now.top.recent ≡ self.now.top.recent }
+        ensures references { result.now.top.references ≡ self.now.top.references }
+    {
+        &self.kept.inner.first.second
+    }
+
+    /// What accounts use and may use.
+    pub fn usage(&self) -> &Usage
+        ensures used { (account : Name) → used_of (find name_order account result.now.top) ≡ used self.now.top account }
+        ensures quotas { quotas_of result.now.top ≡ self.now.top.quotas }
+    {
+        &self.kept.inner.second
     }
 
     // That each open session has a revision of its own above the first one, which is 1 at least.

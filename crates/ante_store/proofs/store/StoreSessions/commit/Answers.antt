@@ -7,4 +7,4 @@ pub returns : goal.returns
 returns c =
     rw (← c.self.view_is)
     (later_committed c.args.revision c.self.inside.kept c.commit.new.self (omega (arith, rw (← c.self.view_is) at c.is_numbered.ensures.1))
-      (c.commit.ensures ∙ ap (λ r. committed r c.self.inside.kept) c.saturating_sub.ensures))
+    (c.commit.ensures ∙ ap (λ r. committed r c.self.inside.kept) c.saturating_sub.ensures))
