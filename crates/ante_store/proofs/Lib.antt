@@ -1,0 +1,4 @@
+pub mod Later
+pub mod Quotas
+pub mod Rebilled
+pub mod Billed

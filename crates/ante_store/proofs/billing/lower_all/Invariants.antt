@@ -1,0 +1,7 @@
+use Rattle.std.proofs.Common.{◌≡◌, [], take}
+use Rattle.ante_undo.specs.Stack.{with_top}
+use Rattle.ante_store.specs.Bills.{IsRebilled}
+use Rattle.ante_store.proofs.billing.lower_all.Given as goal
+
+abbrev pub invariant-loop-payer : goal.invariant-loop-payer
+invariant-loop-payer l = IsRebilled (take l.payer-index l.bills) [] l.initial.usage.top l.usage.top × (l.usage ≡ with_top l.usage.top l.initial.usage)

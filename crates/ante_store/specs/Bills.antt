@@ -1,0 +1,42 @@
+-- Usage and quotas as the store keeps them, against the bills of the world.
+use Rattle.std.specs.Prelude.{◌≡◌, ℕ, ◌+◌, ℤ, negsuc, T, List, [], ◌∷◌, Option, Some, None, if◌then◌else◌}
+use Rattle.std.specs.List.{sum_by}
+use Rattle.std.specs.Ordering.{int_eq}
+use Rattle.std.specs.FinMap.Entries.{find, is_sorted}
+use Rattle.ante_pack.specs.declared.names.Name.{Name}
+use Rattle.ante_state.specs.Orders.{name_order}
+use Rattle.ante_types.specs.World.{World, bills, paid_by}
+use Rattle.ante_ram.specs.declared.parts.Share.{Share}
+use Rattle.ante_ram.specs.Usage.{used_of, usage_sum}
+
+-- a quota, unless it is -1, which is none
+abbrev pub limit : ℤ → Option ℤ
+limit quota = if int_eq quota (negsuc 0) then None else Some quota
+
+-- the quotas of all accounts that have one
+abbrev pub quotas_of : List (Name × Share) → List (Name × ℤ)
+quotas_of [] = []
+quotas_of (e ∷ es) = if int_eq e.1.quota (negsuc 0) then quotas_of es else (e.0, e.1.quota) ∷ quotas_of es
+
+-- what an account pays of all these bills, and what they are together
+abbrev pub paid : Name → List (Name × ℕ) → ℕ
+paid account bills = sum_by (paid_by account) bills
+
+abbrev pub sizes : List (Name × ℕ) → ℕ
+sizes bills = sum_by (λ bill. bill.1) bills
+
+-- these bills went out of the usage, those came into it, and nothing else changed
+pub record IsRebilled (gone come : List (Name × ℕ)) (old new : List (Name × Share)) : Type 0 where
+  pub sorted : T (is_sorted name_order new)
+  pub used : (account : Name) → used_of (find name_order account new) + paid account gone ≡ used_of (find name_order account old) + paid account come
+  pub total : usage_sum new + sizes gone ≡ usage_sum old + sizes come
+  pub quotas : quotas_of new ≡ quotas_of old
+
+-- the bills of the entry at a key, if there is one
+abbrev pub bills_at : {K V : Type 0} → (K × V → List (Name × ℕ)) → K → Option V → List (Name × ℕ)
+bills_at of_entry key None = []
+bills_at of_entry key (Some value) = of_entry (key, value)
+
+-- From the one world to the other these bills go, and those come, whatever is summed up of them.
+abbrev pub Rebills : (gone come : List (Name × ℕ)) → World → World → Type 0
+Rebills gone come w w2 = (part : Name × ℕ → ℕ) → sum_by part (bills w2) + sum_by part gone ≡ sum_by part (bills w) + sum_by part come

@@ -1,0 +1,87 @@
+-- What a change makes of the world, and when it is refused.
+use Rattle.std.specs.Prelude.{ℕ, ◌+◌, ◌-◌, Bool, false, List, Option, Some, None, is_some, nat_le, if◌then◌else◌}
+use Rattle.std.specs.Ordering.{nat_cmp}
+use Rattle.std.specs.FinMap.Entries.{find}
+use Rattle.ante_undo.specs.Entries.{changed}
+use Rattle.ante_pack.specs.declared.names.Name.{Name}
+use Rattle.ante_pack.specs.declared.names.TableKey.{TableKey}
+use Rattle.ante_state.specs.Orders.{name_order, table_order, row_order, level_order, link_order, recent_order}
+use Rattle.ante_state.specs.declared.tables.RowKey.{RowKey}
+use Rattle.ante_state.specs.declared.tables.TableRow.{TableRow}
+use Rattle.ante_state.specs.declared.tables.PrimaryRow.{PrimaryRow}
+use Rattle.ante_types.specs.World.{World}
+use Rattle.ante_store.specs.declared.change.Change.{Change}
+use Rattle.ante_store.specs.declared.change.Change.TheVariants as change
+use Rattle.ante_store.specs.declared.change.WriteError.{WriteError}
+use Rattle.ante_store.specs.declared.change.WriteError.TheVariants as error
+use Rattle.ante_store.specs.Bills.{limit}
+
+-- ---- tables and their rows
+
+-- the table object with one row more, which the first row's payer pays for
+abbrev pub with_row : Option TableRow → Name → TableRow
+with_row None payer = record { payer = payer; count = 1 }
+with_row (Some table) payer = record { payer = table.payer; count = table.count + 1 }
+
+-- with one row less: it goes with the last one
+abbrev pub without_row : Option TableRow → Option TableRow
+without_row None = None
+without_row (Some table) = if nat_le table.count 1 then None else Some (record { payer = table.payer; count = table.count - 1 })
+
+abbrev pub count_of : Option TableRow → ℕ
+count_of None = 0
+count_of (Some table) = table.count
+
+abbrev pub row_at : TableKey → ℕ → World → Option PrimaryRow
+row_at table primary w = find row_order (record { table = table; primary = primary }) w.rows
+
+abbrev pub with_rows : List (TableKey × TableRow) → List (RowKey × PrimaryRow) → World → World
+with_rows tables rows w = record {
+  accounts = w.accounts;
+  permissions = w.permissions;
+  links = w.links;
+  quotas = w.quotas;
+  recent = w.recent;
+  references = w.references;
+  tables = tables;
+  rows = rows;
+}
+
+abbrev pub set_row : TableKey → ℕ → Option PrimaryRow → World → List (RowKey × PrimaryRow)
+set_row table primary row w = changed row_order w.rows (record { table = table; primary = primary }) row
+
+-- ---- changes
+
+abbrev pub after : Change → World → World
+after (change.StoreRow table primary payer bytes) w =
+    with_rows (changed table_order w.tables table (Some (with_row (find table_order table w.tables) payer))) (set_row table primary (Some (record { payer = payer; bytes = bytes })) w) w
+after (change.UpdateRow table primary payer bytes) w =
+    with_rows w.tables (set_row table primary (Some (record { payer = payer; bytes = bytes })) w) w
+after (change.RemoveRow table primary) w =
+    with_rows (changed table_order w.tables table (without_row (find table_order table w.tables))) (set_row table primary None w) w
+after (change.SetAccount name row) w = record w { accounts = changed name_order w.accounts name (Some row) }
+after (change.SetPermission level row) w = record w { permissions = changed level_order w.permissions level row }
+after (change.SetLink account code action requirement) w =
+    record w { links = changed link_order w.links (record { account = account; code = code; action = action }) requirement }
+after (change.SetQuota account quota) w = record w { quotas = changed name_order w.quotas account (limit quota) }
+after (change.SetRecent expiration id there) w =
+    record w { recent = changed recent_order w.recent (record { expiration = expiration; id = id }) (if there then Some tt else None) }
+after (change.SetReference low id) w = record w { references = changed nat_cmp w.references low (Some id) }
+
+-- ---- refusals
+
+-- the row is there already, or isn't there
+abbrev pub misplaced : Change → World → Option WriteError
+misplaced (change.StoreRow table primary payer bytes) w = if is_some (row_at table primary w) then Some error.Exists else None
+misplaced (change.UpdateRow table primary payer bytes) w = if is_some (row_at table primary w) then None else Some error.Missing
+misplaced (change.RemoveRow table primary) w = if is_some (row_at table primary w) then None else Some error.Missing
+misplaced _ w = None
+
+-- the most rows of a table
+abbrev pub most_rows : ℕ
+most_rows = 4294967295
+
+-- one table would have too many rows
+abbrev pub is_full : Change → World → Bool
+is_full (change.StoreRow table primary payer bytes) w = nat_le most_rows (count_of (find table_order table w.tables))
+is_full _ w = false

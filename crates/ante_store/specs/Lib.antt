@@ -1,0 +1,4 @@
+pub mod Later
+pub mod Bills
+pub mod Changes
+pub mod Worlds

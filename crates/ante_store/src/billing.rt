@@ -1,0 +1,83 @@
+// What is billed, taken out of the usage of accounts and added to it.
+ghost use Rattle.std.specs.Prelude.{◌≡◌, ◌+◌, ◌-◌, ◌<◌, ◌≤◌, ◌^◌, [], Err, OnOk, OnErr, IfErr, IsTrue, ◌↔◌};
+ghost use Rattle.std.specs.FinMap.Entries.{find, is_sorted};
+ghost use Rattle.ante_undo.specs.Stack.{with_top, IsAbove};
+ghost use Rattle.ante_state.specs.Orders.{name_order};
+ghost use Rattle.ante_ram.specs.Usage.{used_of, quota_of, usage_sum, with_share};
+ghost use Rattle.ante_ram.specs.declared.usage.RamFault.TheVariants.{OutOfMemory, RamTotal};
+ghost use Rattle.ante_store.specs.Bills.{paid, sizes, IsRebilled};
+
+use crate::laws::names_are_ordered;
+use ante_pack::Name;
+use ante_ram::{RamFault, Usage};
+use std::alloc::Global;
+
+/// What all accounts together may use.
+const MOST: u64 = 4_611_686_018_427_387_904;
+
+fn lower(alloc: Global, usage: &mut Usage, payer: Name, size: u64) -> Result<(), RamFault>
+    requires above { IsAbove 1 usage.old }
+    requires small { usage_sum usage.old.top ≤ 2 ^ 62 }
+    requires within { size ≤ used_of (find name_order payer usage.old.top) }
+    requires fits { size ≤ 2 ^ 62 }
+    ensures ok { OnOk result (usage.new ≡ with_top (with_share name_order payer (used_of (find name_order payer usage.old.top) - size) (quota_of (find name_order payer usage.old.top)) usage.old.top) usage.old) }
+    ensures fault { IfErr result (λ fault. fault ≡ OutOfMemory) }
+    ensures err { OnErr result (usage.new ≡ usage.old) }
+{
+    usage.add(alloc, payer, -(size as i64))
+}
+
+fn raise(alloc: Global, usage: &mut Usage, payer: Name, size: u64) -> Result<(), RamFault>
+    requires above { IsAbove 1 usage.old }
+    ensures ok { OnOk result (usage.new ≡ with_top (with_share name_order payer (used_of (find name_order payer usage.old.top) + size) (quota_of (find name_order payer usage.old.top)) usage.old.top) usage.old) }
+    ensures total { (result ≡ Err RamTotal) ↔ (2 ^ 62 < usage_sum usage.old.top + size) }
+    ensures small { OnOk result (usage_sum usage.old.top + size ≤ 2 ^ 62) }
+    ensures err { OnErr result (usage.new ≡ usage.old) }
+{
+    if size > MOST {
+        return Err(RamFault::RamTotal);
+    }
+    usage.add(alloc, payer, size as i64)
+}
+
+/// Takes bills out of the usage, which holds them.
+pub(crate) fn lower_all(
+    alloc: Global,
+    usage: &mut Usage,
+    bills: &[(Name, u64)],
+) -> Result<(), RamFault>
+    requires above { IsAbove 1 usage.old }
+    requires sorted { IsTrue (is_sorted name_order usage.old.top) }
+    requires small { usage_sum usage.old.top ≤ 2 ^ 62 }
+    requires within { (account : Name) → paid account bills.now ≤ used_of (find name_order account usage.old.top) }
+    ensures ok { OnOk result (IsRebilled bills.now [] usage.old.top usage.new.top) }
+    ensures top { usage.new ≡ with_top usage.new.top usage.old }
+    ensures fault { IfErr result (λ fault. fault ≡ OutOfMemory) }
+{
+    names_are_ordered();
+    for (payer, size) in bills {
+        lower(alloc, usage, *payer, *size)?;
+    }
+    Ok(())
+}
+
+/// Adds bills to the usage.
+pub(crate) fn raise_all(
+    alloc: Global,
+    usage: &mut Usage,
+    bills: &[(Name, u64)],
+) -> Result<(), RamFault>
+    requires above { IsAbove 1 usage.old }
+    requires sorted { IsTrue (is_sorted name_order usage.old.top) }
+    requires small { usage_sum usage.old.top ≤ 2 ^ 62 }
+    ensures ok { OnOk result (IsRebilled [] bills.now usage.old.top usage.new.top) }
+    ensures top { usage.new ≡ with_top usage.new.top usage.old }
+    ensures total { result ≡ Err RamTotal → 2 ^ 62 < usage_sum usage.old.top + sizes bills.now }
+    ensures small { OnOk result (usage_sum usage.old.top + sizes bills.now ≤ 2 ^ 62) }
+{
+    names_are_ordered();
+    for (payer, size) in bills {
+        raise(alloc, usage, *payer, *size)?;
+    }
+    Ok(())
+}

@@ -1,0 +1,68 @@
+use ante_pack::{Bytes, Digest, Level, Name, TableKey};
+use ante_state::{AccountRow, PermissionRow};
+
+/// One change of the chain's state.
+#[derive(Debug, Drop)]
+pub enum Change {
+    /// A new row, and with the first row of a table its table object, both paid by the payer.
+    StoreRow {
+        table: TableKey,
+        primary: u64,
+        payer: Name,
+        bytes: Bytes,
+    },
+    /// Other bytes and another payer for a row that is there.
+    UpdateRow {
+        table: TableKey,
+        primary: u64,
+        payer: Name,
+        bytes: Bytes,
+    },
+    /// A row goes, and with the last row of a table its table object.
+    RemoveRow {
+        table: TableKey,
+        primary: u64,
+    },
+    SetAccount {
+        name: Name,
+        row: AccountRow,
+    },
+    SetPermission {
+        level: Level,
+        row: Option<PermissionRow>,
+    },
+    SetLink {
+        account: Name,
+        code: Name,
+        action: Name,
+        requirement: Option<Name>,
+    },
+    /// The memory that an account may use; -1 is no limit.
+    SetQuota {
+        account: Name,
+        quota: i64,
+    },
+    SetRecent {
+        expiration: u32,
+        id: Digest,
+        there: bool,
+    },
+    SetReference {
+        low: u16,
+        id: Digest,
+    },
+}
+
+/// Why a change isn't made.
+#[derive(Clone, Copy, Debug, PartialEq, Eq)]
+pub enum WriteError {
+    OutOfMemory,
+    /// Nothing may be written here.
+    WriteRefused,
+    /// All accounts together would use more than 2^62 bytes, or a table would have more than 4,294,967,295 rows.
+    RamTotal,
+    /// The row isn't there.
+    Missing,
+    /// The row is there already.
+    Exists,
+}

@@ -1,0 +1,142 @@
+ghost use Rattle.std.specs.Prelude.{◌≡◌, ◌<◌, length, true};
+ghost use Rattle.std.specs.FinMap.Entries.{find};
+ghost use Rattle.ante_pack.specs.declared.names.Name.{Name};
+ghost use Rattle.ante_state.specs.Orders.{name_order};
+ghost use Rattle.ante_types.specs.World.{used};
+ghost use Rattle.ante_ram.specs.Usage.{used_of};
+ghost use Rattle.ante_store.specs.Bills.{quotas_of};
+ghost use Rattle.ante_store.specs.Worlds.{world_of, IsBilled};
+
+use crate::parts::Parts;
+use ante_objects::Objects;
+use ante_ram::Usage;
+use ante_rows::Rows;
+use ante_sessions::{Kept, Sessions, Shape};
+use std::alloc::{AllocError, Global};
+use std::marker::Model;
+
+/// The world as contracts name it. None is ever made.
+#[derive(Drop)]
+pub struct WorldMap {
+    _none: (),
+}
+
+impl Model for WorldMap {
+    ghost use Rattle.ante_types.specs.World.{World};
+    ghost use Rattle.ante_store.specs.Worlds.{no_world};
+
+    ghost Value = { World };
+
+    ghost view = { λ s. no_world };
+}
+
+/// Rows, objects and usage seen as a world, in which usage is what is billed.
+pub struct WorldShape;
+
+impl Shape<Parts> for WorldShape {
+    type Shown = WorldMap;
+
+    ghost shown = { world_of };
+
+    ghost holds = { IsBilled };
+}
+
+/// The whole state of the chain under nested sessions. Contracts see a stack of worlds.
+#[derive(Drop)]
+pub struct Store {
+    kept: Kept<Parts, WorldShape>,
+}
+
+impl Model for Store {
+    ghost use Rattle.ante_undo.specs.Stack.{Stack};
+    ghost use Rattle.ante_types.specs.World.{World};
+    ghost use Rattle.ante_store.specs.Later.{later, HasRoom};
+
+    ghost Value = { Stack World };
+
+    ghost view = { λ s. later s.kept };
+
+    ghost invariant = { λ s. HasRoom s.kept };
+}
+
+impl Store {
+    /// The tables and their rows.
+    pub fn rows(&self) -> &Rows
+        ensures tables { result.now.top.tables ≡ self.now.top.tables }
+        ensures rows { result.now.top.rows ≡ self.now.top.rows }
+    {
+        &self.kept.inner.first.first
+    }
+
+    /// The chain's own objects.
+    pub fn objects(&self) -> &Objects
+        ensures accounts { result.now.top.accounts ≡ self.now.top.accounts }
+        ensures permissions { result.now.top.permissions ≡ self.now.top.permissions }
+        ensures links { result.now.top.links ≡ self.now.top.links }
+        ensures recent { result.now.top.recent ≡ self.now.top.recent }
+        ensures references { result.now.top.references ≡ self.now.top.references }
+    {
+        &self.kept.inner.first.second
+    }
+
+    /// What accounts use and may use.
+    pub fn usage(&self) -> &Usage
+        ensures used { (account : Name) → used_of (find name_order account result.now.top) ≡ used self.now.top account }
+        ensures quotas { quotas_of result.now.top ≡ self.now.top.quotas }
+    {
+        &self.kept.inner.second
+    }
+
+    // That each open session has a revision of its own above the first one, which is 1 at least.
+    fn is_numbered(&self) -> bool
+        ensures { (result ≡ true) × (length self.now.under < self.now.revision) }
+    {
+        self.kept.sessions() <= self.kept.revision()
+    }
+}
+
+// The parts count their revisions from one less, so that a change can always begin a session of its own inside.
+impl Sessions for Store {
+    type Map = WorldMap;
+
+    ghost stack = { λ s. s };
+
+    fn begin(&mut self, alloc: Global) -> Result<u64, AllocError> {
+        let inner = self.kept.begin(alloc)?;
+        Ok(inner + 1)
+    }
+
+    fn undo(&mut self) {
+        self.kept.undo();
+    }
+
+    fn squash(&mut self) {
+        self.kept.squash();
+    }
+
+    fn commit(&mut self, revision: u64) {
+        prove!(self.is_numbered());
+        self.kept.commit(revision.saturating_sub(1));
+    }
+
+    fn shelve(&mut self, revision: u64) {
+        prove!(self.is_numbered());
+        self.kept.shelve(revision - 1);
+    }
+
+    fn unshelve(&mut self) {
+        self.kept.unshelve();
+    }
+
+    fn drop_shelf(&mut self) {
+        self.kept.drop_shelf();
+    }
+
+    fn revision(&self) -> u64 {
+        self.kept.revision() + 1
+    }
+
+    fn sessions(&self) -> u64 {
+        self.kept.sessions()
+    }
+}
