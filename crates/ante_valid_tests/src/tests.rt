@@ -159,7 +159,7 @@ fn a_valid_module_is_lent(rt: HostRuntime) -> Result<(), Fail> {
 const DEPTH: u32 = 1_024;
 
 /// Two instructions each, and about as many as fit into a code.
-const PAIRS_IN_A_CODE: u32 = 300_000;
+const PAIRS_IN_A_CODE: u32 = 30_000;
 
 fn nested(alloc: Heap) -> Result<Vec<Instr>, Fail> {
     let mut body = Vec::new(alloc);

@@ -185,9 +185,9 @@ same_kind j invalid.NoApply e f = is_no_apply j (omega (arith, e))
 pub one_first : (m : Tree) → HasOneFirst m
 one_first m j k a b =
     ⊎_elim
-      (λ e. ⊎_elim
-        (λ f. same_kind j k e f)
-        (λ f. ⊎_elim (λ lt. absurd (b.1 j (inr (e, lt)) a.0)) (λ gt. absurd (a.1 k (inr (sym e, gt)) b.0)) f)
-        (cases_order (index_of j) (index_of k)))
-      (λ e. ⊎_elim (λ lt. absurd (b.1 j (inl lt) a.0)) (λ gt. absurd (a.1 k (inl gt) b.0)) e)
-      (cases_order (place j) (place k))
+    (λ e. ⊎_elim
+    (λ f. same_kind j k e f)
+    (λ f. ⊎_elim (λ lt. absurd (b.1 j (inr (e, lt)) a.0)) (λ gt. absurd (a.1 k (inr (sym e, gt)) b.0)) f)
+    (cases_order (index_of j) (index_of k)))
+    (λ e. ⊎_elim (λ lt. absurd (b.1 j (inl lt) a.0)) (λ gt. absurd (a.1 k (inl gt) b.0)) e)
+    (cases_order (place j) (place k))
