@@ -3,7 +3,7 @@ use super::modules::OTHERS;
 use super::sketch::{Row, Sketch, Step, code, function_type, module};
 use super::{blocks, ifs, straight, unreachable};
 use ante_pack::Seq;
-use ante_wtree::{Code, ExportKind, FuncType, Global, Init, Limits, Module, ValueKind};
+use ante_wtree::{Code, ExportKind, FuncType, Global, Init, Instr, Limits, Module, ValueKind};
 use ante_wvalid::{InvalidKind, ValidateError, validate};
 use std::alloc::{AllocError, Global as Heap};
 use std::test::Fail;
@@ -152,5 +152,54 @@ fn a_valid_module_is_lent(rt: HostRuntime) -> Result<(), Fail> {
         return Err(AllocError)?;
     };
     assert_eq!(rt; valid.module().types.len(), BASE.types.len());
+    Ok(())
+}
+
+/// The deepest nesting that is decoded.
+const DEPTH: u32 = 1_024;
+
+/// Two instructions each, and about as many as fit into a code.
+const PAIRS_IN_A_CODE: u32 = 30_000;
+
+fn nested(alloc: Heap) -> Result<Vec<Instr>, Fail> {
+    let mut body = Vec::new(alloc);
+    for _ in 0..DEPTH {
+        let mut outer = Vec::new(alloc);
+        outer.push(Instr::Block(None, body))?;
+        body = outer;
+    }
+    Ok(body)
+}
+
+fn long(alloc: Heap) -> Result<Vec<Instr>, Fail> {
+    let mut body = Vec::new(alloc);
+    for _ in 0..PAIRS_IN_A_CODE {
+        body.push(Instr::I32Const(0))?;
+        body.push(Instr::Drop)?;
+    }
+    Ok(body)
+}
+
+fn with_bodies(alloc: Heap, first: Vec<Instr>, second: Vec<Instr>) -> Result<Module, Fail> {
+    let mut made = module(alloc, &BASE)?;
+    let mut codes = Seq::new(alloc);
+    for body in [first, second] {
+        codes.push(
+            alloc,
+            Code {
+                locals: Seq::new(alloc),
+                body,
+            },
+        )?;
+    }
+    made.codes = codes;
+    Ok(made)
+}
+
+#[test]
+fn deep_and_long_bodies_are_typed(rt: HostRuntime) -> Result<(), Fail> {
+    let alloc = rt.alloc();
+    let made = with_bodies(alloc, nested(alloc)?, long(alloc)?)?;
+    assert_eq!(rt; refusal(alloc, made)?, None);
     Ok(())
 }

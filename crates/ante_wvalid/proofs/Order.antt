@@ -1,6 +1,6 @@
 -- Kinds are looked for in the order of their places.
-use Rattle.std.proofs.Common.{◌≡◌, ⊎_elim, ℕ, suc, ◌+◌, ◌<◌, ◌≤◌, length, refl, sym, ap, subst, ◌∙◌, arith}
-use Rattle.std.proofs.lemmas.Bool.{cases_lt}
+use Rattle.std.proofs.Common.{slice_get, Some, ◌∷◌, [], List, inr, inl, ◌≡◌, ⊎_elim, ℕ, suc, ◌+◌, ◌<◌, ◌≤◌, length, refl, sym, ap, subst, ◌∙◌, arith}
+use Rattle.std.proofs.lemmas.Bool.{cases_lt, cases_order}
 use Rattle.ante_wtree.specs.Trees.{Tree}
 use Rattle.ante_wvalid.specs.declared.kinds.ModuleRule.{ModuleRule}
 use Rattle.ante_wvalid.specs.declared.kinds.ModuleRule.TheVariants as rule
@@ -10,7 +10,7 @@ use Rattle.ante_wvalid.specs.declared.imports.ImportRule.{ImportRule}
 use Rattle.ante_wvalid.specs.declared.imports.ImportRule.TheVariants as import_rule
 use Rattle.ante_wvalid.specs.Modules.{Applies, Breaks, IsUntyped, HasApply, IsFirstInvalid, IsValid, Precedes, place, index_of, rule_place, imported}
 use Rattle.ante_wvalid.specs.State.{IsRefused}
-use Rattle.ante_wvalid.specs.Answers.{Clear}
+use Rattle.ante_wvalid.specs.Answers.{Clear, HasOneFirst}
 
 pub clear_more : (m : Tree) (n : ℕ) → Clear m n → ((k : InvalidKind) → place k ≡ n → Applies m k → ⊥) → Clear m (suc n)
 clear_more m n h g k lt a = ⊎_elim (λ less. h k less a) (λ more. g k (omega arith) a) (cases_lt (place k) n)
@@ -147,3 +147,47 @@ no_apply_first m h c = is_first m invalid.NoApply c h (λ j e lt b. absurd (omeg
 
 pub valid : (m : Tree) → HasApply m → Clear m 15 → IsValid m
 valid m h c k a = ⊎_elim (λ less. c k less a) (λ more. subst (Applies m) (is_no_apply k more) a h) (cases_lt (place k) 15)
+
+-- ---- one first kind
+
+abbrev all_rules : List ModuleRule
+all_rules = rule.TypeIndex ∷ rule.Results ∷ rule.TwoTables ∷ rule.TwoMemories ∷ rule.Bounds ∷ rule.GlobalInit ∷ rule.ExportIndex ∷ rule.ExportTwice ∷ rule.Start ∷ rule.ElementIndex ∷ rule.SegmentMemory ∷ []
+
+rule_at : (r : ModuleRule) → slice_get all_rules (rule_place r) ≡ Some r
+rule_at rule.TypeIndex = refl
+rule_at rule.Results = refl
+rule_at rule.TwoTables = refl
+rule_at rule.TwoMemories = refl
+rule_at rule.Bounds = refl
+rule_at rule.GlobalInit = refl
+rule_at rule.ExportIndex = refl
+rule_at rule.ExportTwice = refl
+rule_at rule.Start = refl
+rule_at rule.ElementIndex = refl
+rule_at rule.SegmentMemory = refl
+
+some_is : {A : Type 0} {x y : A} → Some x ≡ Some y → x ≡ y
+some_is h = cc
+
+same_rule : (r s : ModuleRule) → rule_place r ≡ rule_place s → r ≡ s
+same_rule r s e = some_is (sym (rule_at r) ∙ ap (slice_get all_rules) e ∙ rule_at s)
+
+same_kind : (j k : InvalidKind) → place j ≡ place k → index_of j ≡ index_of k → j ≡ k
+same_kind j (invalid.ImportKind index) e f = let r = is_import import_rule.Function j e in r.1 ∙ ap invalid.ImportKind (sym (ap index_of r.1) ∙ f)
+same_kind j (invalid.UnknownImport index) e f = let r = is_import import_rule.Known j e in r.1 ∙ ap invalid.UnknownImport (sym (ap index_of r.1) ∙ f)
+same_kind j (invalid.ImportType index) e f = let r = is_import import_rule.HostType j e in r.1 ∙ ap invalid.ImportType (sym (ap index_of r.1) ∙ f)
+same_kind j (invalid.Rule r) e f =
+    let s = is_rule j (omega (arith, e)) (omega (arith, e, rule_below r)) in
+    s.1 ∙ ap invalid.Rule (same_rule s.0 r (omega (arith, e, ap place s.1)))
+same_kind j (invalid.Body function) e f = let r = is_body j e in r.1 ∙ ap invalid.Body (sym (ap index_of r.1) ∙ f)
+same_kind j invalid.NoApply e f = is_no_apply j (omega (arith, e))
+
+pub one_first : (m : Tree) → HasOneFirst m
+one_first m j k a b =
+    ⊎_elim
+    (λ e. ⊎_elim
+    (λ f. same_kind j k e f)
+    (λ f. ⊎_elim (λ lt. absurd (b.1 j (inr (e, lt)) a.0)) (λ gt. absurd (a.1 k (inr (sym e, gt)) b.0)) f)
+    (cases_order (index_of j) (index_of k)))
+    (λ e. ⊎_elim (λ lt. absurd (b.1 j (inl lt) a.0)) (λ gt. absurd (a.1 k (inl gt) b.0)) e)
+    (cases_order (place j) (place k))

@@ -7,6 +7,7 @@ mod imports;
 mod jumps;
 mod kinds;
 mod known;
+pub mod laws;
 mod repeats;
 mod rules;
 mod scope;
