@@ -8,7 +8,7 @@ use Rattle.ante_wtree.specs.declared.modules.FuncType.{FuncType}
 use Rattle.ante_wtree.specs.Expressions.{Expression, Over, Plain, Block, Loop, If, Br, BrIf, BrTable, Return, Call, CallIndirect, MemoryGrow}
 use Rattle.ante_wrun.specs.declared.ends.TrapKind.{TrapKind}
 use Rattle.ante_wrun.specs.Effects.{Effect, Next, Traps, effect, top, popped, low}
-use Rattle.ante_wrun.specs.Meaning.{Outside, Function, Own, Given, Missing, Program, State, Outcome, Normal, Branch, Returned, Ended, Lacks, InHost, stack_of, on_stack, with_values, keep, results, result_of, returned, grown_by, entered, arguments, all_fitted, after_look, after_item, due, supplied, pay, seen, step, starts, and_then, of_block, of_loop, of_call, of_effect, turns, chosen, jump_unless, target, pay_pages, grow_if, grow, element, acts, does, with_operands, of_reply, host_supplied, call_host, of_function, no_frame, call_own, in_frame, call}
+use Rattle.ante_wrun.specs.Meaning.{Outside, Function, Own, Given, Missing, Program, State, Outcome, Normal, Branch, Returned, Ended, Lacks, InHost, stack_of, on_stack, with_values, keep, result_of, returned, grown_by, entered, arguments, all_fitted, after_look, after_item, due, supplied, pay, seen, step, starts, and_then, of_block, of_loop, of_call, of_effect, turns, chosen, jump_unless, target, pay_pages, grow_if, grow, element, acts, does, with_operands, of_reply, host_supplied, call_host, of_function, no_frame, call_own, in_frame, call}
 
 module _ {W R : Type 0} where
   abbrev pub Lowers : ℕ → Outcome W R → Type 0
@@ -160,8 +160,8 @@ module _ {W R : Type 0} (program : Program) (calls : ℕ → State W → Outcome
       let b = starts_lowers two (acts program calls two) (acts_lowers two) in
       let t = on_stack s (popped (stack_of s)) in
       and_then_lowers (suc s.left) _ _
-        (of_block_lowers kind (length (stack_of t)) (suc s.left) _ (rest_lowers _ (chosen_lowers (low (top (stack_of s)) == 0) _ _ a b) (suc s.left) t (omega arith)))
-        (rest_of rest r (suc s.left))
+      (of_block_lowers kind (length (stack_of t)) (suc s.left) _ (rest_lowers _ (chosen_lowers (low (top (stack_of s)) == 0) _ _ a b) (suc s.left) t (omega arith)))
+      (rest_of rest r (suc s.left))
   acts_lowers (Br n rest) s = omega arith
   acts_lowers (BrIf n rest) s =
       let r = starts_lowers rest (acts program calls rest) (acts_lowers rest) in
@@ -174,13 +174,13 @@ module _ {W R : Type 0} (program : Program) (calls : ℕ → State W → Outcome
   acts_lowers (CallIndirect t rest) s =
       let r = starts_lowers rest (acts program calls rest) (acts_lowers rest) in
       and_then_lowers (suc s.left) _ _
-        (rest_lowers _ (target_lowers (element program t (low (top (stack_of s)))) calls c) (suc s.left) (on_stack s (popped (stack_of s))) (omega arith))
-        (rest_of rest r (suc s.left))
+      (rest_lowers _ (target_lowers (element program t (low (top (stack_of s)))) calls c) (suc s.left) (on_stack s (popped (stack_of s))) (omega arith))
+      (rest_of rest r (suc s.left))
   acts_lowers (MemoryGrow rest) s =
       let r = starts_lowers rest (acts program calls rest) (acts_lowers rest) in
       and_then_lowers (suc s.left) _ _
-        (rest_lowers _ (grow_lowers W R (low (top (stack_of s)))) (suc s.left) (on_stack s (popped (stack_of s))) (omega arith))
-        (rest_of rest r (suc s.left))
+      (rest_lowers _ (grow_lowers W R (low (top (stack_of s)))) (suc s.left) (on_stack s (popped (stack_of s))) (omega arith))
+      (rest_of rest r (suc s.left))
 
   pub does_lowers : (code : Expression) → AllLower (does program calls code)
   does_lowers code = starts_lowers code (acts program calls code) (acts_lowers code)
@@ -210,7 +210,7 @@ module _ {W R : Type 0} where
       let args = all_fitted kind.params (arguments (length kind.params) (stack_of s)) in
       let outcome = host s.world number args s.values.memory s.left in
       host_supplied_lowers (s.outside.call_lacks s.outside.calls) number args _ s
-        (of_reply_lowers number args (drop (length kind.params) (stack_of s)) outcome.reply outcome.left s (falls s.world number args s.values.memory s.left))
+      (of_reply_lowers number args (drop (length kind.params) (stack_of s)) outcome.reply outcome.left s (falls s.world number args s.values.memory s.left))
 
   of_function_lowers : (host : HostMeaning W R) → HostFalls host → (own : FuncType → ℕ → Expression → State W → Outcome W R) → ((kind : FuncType) (locals : ℕ) (body : Expression) → AllLower (own kind locals body)) → (f : Option Function) → AllLower (of_function host own f)
   of_function_lowers host falls own h (Some (Own kind locals body)) s = h kind locals body s
@@ -230,8 +230,8 @@ module _ {W R : Type 0} where
   call_lowers host falls program zero f s = of_function_lowers host falls no_frame (λ kind locals body s. tt) (slice_get program.functions f) s
   call_lowers host falls program (suc free) f s =
       of_function_lowers host falls (in_frame (does program (call host program free)))
-        (in_frame_lowers (does program (call host program free)) (does_lowers program (call host program free) (call_lowers host falls program free)))
-        (slice_get program.functions f) s
+      (in_frame_lowers (does program (call host program free)) (does_lowers program (call host program free) (call_lowers host falls program free)))
+      (slice_get program.functions f) s
 
   -- ---- a loop's turns
 

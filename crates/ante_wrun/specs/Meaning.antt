@@ -75,10 +75,14 @@ pub data Outcome (W R : Type 0) : Type 0 where
 abbrev pub keep : (height : ℕ) → List ℕ → List ℕ
 keep height stack = drop (length stack - height) stack
 
--- what a block or a function with this result hands on from the top
-abbrev pub results : Option ValueKind → List ℕ → List ℕ
-results None stack = []
-results (Some kind) stack = top stack ∷ []
+-- how many results a block or a function has
+abbrev pub arity : Option ValueKind → ℕ
+arity None = 0
+arity (Some kind) = 1
+
+-- what a branch to a block's label leaves: the block's results from the top, on the operands that were there before
+abbrev pub unwound : Option ValueKind → (height : ℕ) → List ℕ → List ℕ
+unwound kind height stack = take (arity kind) stack ++ keep height (drop (arity kind) stack)
 
 abbrev pub result_of : List ValueKind → Option ValueKind
 result_of [] = None
@@ -100,7 +104,7 @@ module _ {W : Type 0} where
 
   -- The caller's locals and operands, with the function's result on top of these.
   abbrev pub returned : Option ValueKind → (locals stack : List ℕ) → State W → State W
-  returned kind locals stack s = record s { values = record s.values { locals = locals; stack = results kind (stack_of s) ++ stack } }
+  returned kind locals stack s = record s { values = record s.values { locals = locals; stack = take (arity kind) (stack_of s) ++ stack } }
 
   -- the old size goes onto the operands, or -1 where the memory may not grow
   abbrev pub grown_by : (pages : ℕ) → State W → State W
@@ -161,10 +165,10 @@ module _ {W R : Type 0} where
   and_then (Lacks s) go = Lacks s
   and_then (InHost f args a n s) go = InHost f args a n s
 
-  -- a branch to a block's label goes on after the block, with the block's result on the operands that were there before
+  -- a branch to a block's label goes on after the block
   abbrev pub of_block : Option ValueKind → (height : ℕ) → Outcome W R → Outcome W R
   of_block kind height (Normal s) = Normal s
-  of_block kind height (Branch zero s) = Normal (on_stack s (results kind (stack_of s) ++ keep height (stack_of s)))
+  of_block kind height (Branch zero s) = Normal (on_stack s (unwound kind height (stack_of s)))
   of_block kind height (Branch (suc n) s) = Branch n s
   of_block kind height (Returned s) = Returned s
   of_block kind height (Ended e s) = Ended e s
@@ -189,6 +193,15 @@ module _ {W R : Type 0} where
   of_call kind locals stack (Ended e s) = Ended e s
   of_call kind locals stack (Lacks s) = Lacks s
   of_call kind locals stack (InHost f args a n s) = InHost f args a n s
+
+  -- nothing is around the function that is invoked from outside
+  abbrev pub settled : Outcome W R → Outcome W R
+  settled (Normal s) = Normal s
+  settled (Branch n s) = Normal s
+  settled (Returned s) = Normal s
+  settled (Ended e s) = Ended e s
+  settled (Lacks s) = Lacks s
+  settled (InHost f args a n s) = InHost f args a n s
 
   abbrev pub of_effect : Effect → State W → (State W → Outcome W R) → Outcome W R
   of_effect (Next v) s go = go (with_values s v)
@@ -270,7 +283,7 @@ module _ {W R : Type 0} (program : Program) (calls : ℕ → State W → Outcome
   acts (If kind one two rest) s =
       let below = popped (stack_of s) in
       and_then (of_block kind (length below) (chosen (low (top (stack_of s)) == 0) (starts one (acts one)) (starts two (acts two)) (on_stack s below)))
-        (starts rest (acts rest))
+      (starts rest (acts rest))
   acts (Br n rest) s = Branch n s
   acts (BrIf n rest) s = and_then (jump_unless (low (top (stack_of s)) == 0) n (on_stack s (popped (stack_of s)))) (starts rest (acts rest))
   acts (BrTable ns n rest) s = Branch (slice_index_or ns (low (top (stack_of s))) n) (on_stack s (popped (stack_of s)))

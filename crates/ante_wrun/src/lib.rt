@@ -2,5 +2,6 @@
 #![tactic(auto)]
 
 mod ends;
+mod values;
 
 pub use ends::{RunEnd, TrapKind};
