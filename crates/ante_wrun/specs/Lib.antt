@@ -1,3 +1,4 @@
 pub mod Effects
 pub mod Meaning
 pub mod Frames
+pub mod Machine

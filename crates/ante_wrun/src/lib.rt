@@ -1,7 +1,9 @@
 //! The interpreter of WebAssembly Core 1.0 (section 4), exact to the last step.
 #![tactic(auto)]
 
+mod data;
 mod ends;
+mod plain;
 mod values;
 
 pub use ends::{RunEnd, TrapKind};

@@ -95,8 +95,20 @@ impl ValueStack {
         }
     }
 
-    /// Puts a value in place of the topmost operand, if there is one.
-    pub(crate) fn replace(&mut self, value: u64)
+    /// Puts a value in place of the topmost operand, or on top where there is none.
+    pub(crate) fn put(&mut self, _alloc: Global, value: u64) -> Result<(), AllocError>
+        ensures { OnOk result (self.new ≡ record self.old { stack = value ∷ popped self.old.stack }) }
+    {
+        if self.height() > 0 {
+            self.replace(value);
+            return Ok(());
+        }
+        self.items.push(value)?;
+        Ok(())
+    }
+
+    /// Puts a value in place of the topmost operand.
+    fn replace(&mut self, value: u64)
         requires { 0 < length self.old.stack }
         ensures { self.new ≡ record self.old { stack = value ∷ popped self.old.stack } }
     {
