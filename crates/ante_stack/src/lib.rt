@@ -56,4 +56,22 @@ impl<T> Stack<T> {
     {
         self.items.pop()
     }
+
+    /// A copy of the topmost item, if there is one.
+    pub fn top(&self) -> Option<T>
+    where
+        T: Copy,
+        ensures { MatchOption result (self.now ≡ []) (λ item. self.now ≡ item ∷ drop 1 self.now) }
+    {
+        self.items.as_slice().last().copied()
+    }
+
+    /// Takes the topmost item away, if there is one.
+    pub fn discard(&mut self)
+    where
+        T: Drop,
+        ensures { self.new ≡ drop 1 self.old }
+    {
+        let _ = self.items.pop();
+    }
 }

@@ -8,7 +8,7 @@ use Rattle.ante_wtree.specs.declared.modules.FuncType.{FuncType}
 use Rattle.ante_wtree.specs.Expressions.{Expression, Over, Plain, Block, Loop, If, Br, BrIf, BrTable, Return, Call, CallIndirect, MemoryGrow}
 use Rattle.ante_wrun.specs.declared.ends.TrapKind.{TrapKind}
 use Rattle.ante_wrun.specs.Effects.{Effect, Next, Traps, effect, top, popped, low}
-use Rattle.ante_wrun.specs.Meaning.{Outside, Function, Own, Given, Missing, Program, State, Outcome, Normal, Branch, Returned, Ended, Lacks, InHost, stack_of, on_stack, with_values, keep, result_of, returned, grown_by, entered, arguments, all_fitted, after_look, after_item, due, supplied, pay, seen, step, starts, and_then, of_block, of_loop, of_call, of_effect, turns, chosen, jump_unless, target, pay_pages, grow_if, grow, element, acts, does, with_operands, of_reply, host_supplied, call_host, of_function, no_frame, call_own, in_frame, call}
+use Rattle.ante_wrun.specs.Meaning.{Outside, FunctionInstance, Own, Given, Missing, Program, State, Outcome, Normal, Branch, Returned, Ended, Lacks, InHost, stack_of, on_stack, with_values, keep, result_of, returned, grown_by, entered, arguments, all_fitted, after_look, after_item, due, supplied, pay, seen, step, starts, and_then, of_block, of_loop, of_call, of_effect, turns, chosen, jump_unless, target, pay_pages, grow_if, grow, element, acts, does, with_operands, of_reply, host_supplied, call_host, of_function, no_frame, call_own, in_frame, call}
 
 module _ {W R : Type 0} where
   abbrev pub Lowers : ℕ → Outcome W R → Type 0
@@ -212,7 +212,7 @@ module _ {W R : Type 0} where
       host_supplied_lowers (s.outside.call_lacks s.outside.calls) number args _ s
       (of_reply_lowers number args (drop (length kind.params) (stack_of s)) outcome.reply outcome.left s (falls s.world number args s.values.memory s.left))
 
-  of_function_lowers : (host : HostMeaning W R) → HostFalls host → (own : FuncType → ℕ → Expression → State W → Outcome W R) → ((kind : FuncType) (locals : ℕ) (body : Expression) → AllLower (own kind locals body)) → (f : Option Function) → AllLower (of_function host own f)
+  of_function_lowers : (host : HostMeaning W R) → HostFalls host → (own : FuncType → ℕ → Expression → State W → Outcome W R) → ((kind : FuncType) (locals : ℕ) (body : Expression) → AllLower (own kind locals body)) → (f : Option FunctionInstance) → AllLower (of_function host own f)
   of_function_lowers host falls own h (Some (Own kind locals body)) s = h kind locals body s
   of_function_lowers host falls own h (Some (Given kind number)) s =
       with_operands_lowers (nat_lt (length (stack_of s)) (length kind.params)) (call_host host kind number) (call_host_lowers host falls kind number) s

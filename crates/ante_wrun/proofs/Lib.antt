@@ -1,3 +1,4 @@
 pub mod Falls
 pub mod Regions
 pub mod Signs
+pub mod Bodies

@@ -40,14 +40,14 @@ after_call o = record o { calls = suc o.calls }
 
 -- an own function with its type, the number of its locals beside the parameters and its body, or one of the host's with
 -- its type and its number
-pub data Function : Type 0 where
-  Own : (kind : FuncType) → (locals : ℕ) → (body : Expression) → Function
-  Given : (kind : FuncType) → (number : ℕ) → Function
-  Missing : Function
+pub data FunctionInstance : Type 0 where
+  Own : (kind : FuncType) → (locals : ℕ) → (body : Expression) → FunctionInstance
+  Given : (kind : FuncType) → (number : ℕ) → FunctionInstance
+  Missing : FunctionInstance
 
 pub record Program : Type 0 where
   pub types : List FuncType
-  pub functions : List Function
+  pub functions : List FunctionInstance
   pub table : List (Option ℕ)
 
 -- ---- states and outcomes
@@ -253,7 +253,7 @@ same_kinds [] (k ∷ ks) = false
 same_kinds (j ∷ js) [] = false
 same_kinds (j ∷ js) (k ∷ ks) = same_kind j k && same_kinds js ks
 
-abbrev pub has_type : Option Function → Option FuncType → Bool
+abbrev pub has_type : Option FunctionInstance → Option FuncType → Bool
 has_type (Some (Own kind locals body)) (Some wanted) = same_kinds kind.params wanted.params && same_kinds kind.results wanted.results
 has_type (Some (Given kind number)) (Some wanted) = same_kinds kind.params wanted.params && same_kinds kind.results wanted.results
 has_type function wanted = false
@@ -335,7 +335,7 @@ module _ {W R : Type 0} where
       let outcome = host s.world number args s.values.memory s.left in
       host_supplied (s.outside.call_lacks s.outside.calls) number args (of_reply number args (drop count (stack_of s)) outcome.reply outcome.left s) s
 
-  abbrev pub of_function : HostMeaning W R → (own : FuncType → ℕ → Expression → State W → Outcome W R) → Option Function → State W → Outcome W R
+  abbrev pub of_function : HostMeaning W R → (own : FuncType → ℕ → Expression → State W → Outcome W R) → Option FunctionInstance → State W → Outcome W R
   of_function host own (Some (Own kind locals body)) s = own kind locals body s
   of_function host own (Some (Given kind number)) s = with_operands (nat_lt (length (stack_of s)) (length kind.params)) (call_host host kind number) s
   of_function host own (Some Missing) s = Ended (end.Trap trap.Unreachable) s

@@ -4,6 +4,7 @@
 mod data;
 mod ends;
 mod plain;
+mod thread;
 mod values;
 
 pub use ends::{RunEnd, TrapKind};
