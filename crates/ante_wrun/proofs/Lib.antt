@@ -2,3 +2,4 @@ pub mod Falls
 pub mod Regions
 pub mod Signs
 pub mod Bodies
+pub mod Calls
