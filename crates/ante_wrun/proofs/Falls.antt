@@ -1,6 +1,6 @@
 -- No code raises the steps left, and a branch has lowered them: so a loop's turns are never too few.
 use Rattle.std.proofs.Common.{◌≡◌, ℕ, zero, suc, ◌-◌, ◌<◌, ◌≤◌, Bool, true, false, List, length, drop, Option, None, Some, Result, Ok, Err, refl, arith}
-use Rattle.std.specs.Prelude.{◌==◌, nat_lt, nat_le, slice_get}
+use Rattle.std.specs.Prelude.{◌==◌, not, nat_lt, nat_le, slice_get}
 use Rattle.ante_wmem.specs.Linear.{LinearMemory, may_grow}
 use Rattle.ante_wmem.specs.HostCalls.{Reply, value, nothing, exit, refused, step_limit, HostMeaning}
 use Rattle.ante_wtree.specs.declared.instructions.ValueKind.{ValueKind}
@@ -8,7 +8,7 @@ use Rattle.ante_wtree.specs.declared.modules.FuncType.{FuncType}
 use Rattle.ante_wtree.specs.Expressions.{Expression, Over, Plain, Block, Loop, If, Br, BrIf, BrTable, Return, Call, CallIndirect, MemoryGrow}
 use Rattle.ante_wrun.specs.declared.ends.TrapKind.{TrapKind}
 use Rattle.ante_wrun.specs.Effects.{Effect, Next, Traps, effect, top, popped, low}
-use Rattle.ante_wrun.specs.Meaning.{Outside, FunctionInstance, Own, Given, Missing, Program, State, Outcome, Normal, Branch, Returned, Ended, Lacks, InHost, stack_of, on_stack, with_values, keep, result_of, returned, grown_by, entered, arguments, all_fitted, after_look, after_item, due, supplied, pay, seen, step, starts, and_then, of_block, of_loop, of_call, of_effect, turns, chosen, jump_unless, target, pay_pages, grow_if, grow, element, acts, does, with_operands, of_reply, host_supplied, call_host, of_function, no_frame, call_own, in_frame, call}
+use Rattle.ante_wrun.specs.Meaning.{Outside, FunctionInstance, Own, Given, Missing, Program, State, Outcome, Normal, Branch, Returned, Ended, Lacks, InHost, stack_of, on_stack, with_values, keep, result_of, returned, grown_by, entered, arguments, all_fit, after_look, after_item, due, supplied, pay, seen, step, starts, and_then, of_block, of_loop, of_call, of_effect, turns, chosen, jump_unless, target, pay_pages, grow_if, grow, element, acts, does, with_operands, of_reply, host_supplied, call_host, of_function, no_frame, call_own, in_frame, call}
 
 module _ {W R : Type 0} where
   abbrev pub Lowers : ℕ → Outcome W R → Type 0
@@ -207,7 +207,7 @@ module _ {W R : Type 0} where
 
   call_host_lowers : (host : HostMeaning W R) → HostFalls host → (kind : FuncType) (number : ℕ) → AllLower (call_host host kind number)
   call_host_lowers host falls kind number s =
-      let args = all_fitted kind.params (arguments (length kind.params) (stack_of s)) in
+      let args = arguments (length kind.params) (stack_of s) in
       let outcome = host s.world number args s.values.memory s.left in
       host_supplied_lowers (s.outside.call_lacks s.outside.calls) number args _ s
       (of_reply_lowers number args (drop (length kind.params) (stack_of s)) outcome.reply outcome.left s (falls s.world number args s.values.memory s.left))
@@ -215,7 +215,7 @@ module _ {W R : Type 0} where
   of_function_lowers : (host : HostMeaning W R) → HostFalls host → (own : FuncType → ℕ → Expression → State W → Outcome W R) → ((kind : FuncType) (locals : ℕ) (body : Expression) → AllLower (own kind locals body)) → (f : Option FunctionInstance) → AllLower (of_function host own f)
   of_function_lowers host falls own h (Some (Own kind locals body)) s = h kind locals body s
   of_function_lowers host falls own h (Some (Given kind number)) s =
-      with_operands_lowers (nat_lt (length (stack_of s)) (length kind.params)) (call_host host kind number) (call_host_lowers host falls kind number) s
+      with_operands_lowers (not (all_fit kind.params (arguments (length kind.params) (stack_of s)))) (call_host host kind number) (call_host_lowers host falls kind number) s
   of_function_lowers host falls own h (Some Missing) s = tt
   of_function_lowers host falls own h None s = tt
 

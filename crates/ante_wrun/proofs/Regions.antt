@@ -1,11 +1,12 @@
 -- A list in three parts, as the values of the frames lie in it, and what the operations on the last part make of it.
-use Rattle.std.proofs.Common.{◌≡◌, ℕ, zero, suc, ◌+◌, ◌-◌, ◌<◌, ◌≤◌, List, [], ◌∷◌, ◌++◌, length, take, drop, reverse, replicate, set, min, Option, None, Some, refl, sym, ap, subst, ◌∙◌, arith, length-append, length-drop, append_assoc, take-take, true, false, ◌⊎◌, ⊎_elim}
+use Rattle.std.proofs.Common.{◌≡◌, ℕ, zero, suc, ◌+◌, ◌-◌, ◌<◌, ◌≤◌, List, [], ◌∷◌, ◌++◌, length, take, drop, reverse, replicate, set, min, Option, None, Some, refl, sym, ap, subst, ◌∙◌, arith, length-append, length-drop, append_assoc, take-take, Bool, true, false, ◌⊎◌, ⊎_elim}
 use Rattle.std.specs.Option.{is_some}
-use Rattle.std.proofs.lemmas.List.{take-append-drop, take_rest, reverse-reverse, reverse-append, length-reverse, drop-drop, length-take, length-take-le, set_split, length-set, append-nil, set-append_left, set-append_right, take_more_set}
+use Rattle.std.specs.Prelude.{◌&&◌}
+use Rattle.std.proofs.lemmas.List.{take-append-drop, drop-take, take_rest, reverse-reverse, reverse-append, length-reverse, drop-drop, length-take, length-take-le, set_split, length-set, append-nil, set-append_left, set-append_right, take_more_set}
 use Rattle.std.proofs.Math.Seq.{take-append_seam, drop-append_seam, take-append-add, drop-append-add, drop-length}
 use Rattle.ante_wtree.specs.declared.instructions.ValueKind.{ValueKind}
 use Rattle.ante_wrun.specs.Effects.{top, popped}
-use Rattle.ante_wrun.specs.Meaning.{keep, unwound, arity, arguments}
+use Rattle.ante_wrun.specs.Meaning.{keep, unwound, arity, arguments, fits, all_fit}
 use Rattle.ante_wrun.specs.Frames.{FrameValues}
 
 -- ---- lists from their other end
@@ -171,6 +172,21 @@ module _ (xs : List ℕ) (base floor : ℕ) (b : base ≤ floor) (f : floor ≤ 
       ∙ ap (λ r. record { below = a ++ (l ++ r); locals = args ++ replicate zeros 0; stack = [] }) (sym (others_are params s le))
       ∙ ap (λ r. record { below = a ++ (l ++ reverse (drop params (reverse s))); locals = r ++ replicate zeros 0; stack = [] }) (sym (arguments_are params s le))
 
+  pub args_at : (count : ℕ) → count < length s →
+      take (length xs - 1 - (length xs - 1 - count)) (drop (length xs - 1 - count) xs) ≡ arguments count (popped (reverse s))
+  args_at count lt =
+      let k = length s - 1 - count in
+      let n = length s - 1 in
+      let one : length xs - 1 - (length xs - 1 - count) ≡ count = omega (arith, lt, s_length) in
+      let two : length xs - 1 - count ≡ floor + k = omega (arith, lt, s_length, f) in
+      let size : length (take n s) ≡ n = length-take-le n s (omega arith) in
+      let three : length (take n s) - count ≡ k = omega (arith, size) in
+      let four : k + count ≡ n = omega (arith, lt) in
+      let le : count ≤ length (take n s) = omega (arith, size, lt) in
+      ap (λ j. take j (drop (length xs - 1 - count) xs)) one ∙ ap (λ j. take count (drop j xs)) two ∙ ap (take count) (sym (drop-drop k floor xs))
+      ∙ sym (drop-take k count s) ∙ ap (λ j. drop k (take j s)) four
+      ∙ sym (ap (arguments count) (popped_front (omega arith)) ∙ arguments_are count (take n s) le ∙ ap (λ j. drop j (take n s)) three)
+
 -- the values below, with so many of them as locals and the others as operands, on top of which come others
 pub left_at : (a t : List ℕ) (base locals base' floor' : ℕ) → base' ≡ min base (length a) → floor' ≡ base' + min locals (length a - base') →
     view (a ++ t) base' floor' ≡ record { below = take base a; locals = take locals (drop base a); stack = reverse t ++ reverse (drop locals (drop base a)) }
@@ -220,6 +236,10 @@ module _ (xs : List ℕ) (base floor : ℕ) (v : FrameValues) (e : view xs base 
       subst (λ w. view ys (length xs - params) (length ys) ≡ record { below = w.below ++ (w.locals ++ reverse (drop params w.stack)); locals = arguments params w.stack ++ replicate zeros 0; stack = [] }) e
       (entered_at xs base floor b f ys params zeros y (omega (arith, le, height_is)))
 
+  pub args_view : (count : ℕ) → count < length v.stack →
+      take (length xs - 1 - (length xs - 1 - count)) (drop (length xs - 1 - count) xs) ≡ arguments count (popped v.stack)
+  args_view count lt = args_at xs base floor b f count (omega (arith, lt, height_is)) ∙ ap (λ w. arguments count (popped w.stack)) e
+
   pub left_view : (ys t : List ℕ) (kind : Option ValueKind) (start count base' floor' : ℕ) → ys ≡ take base xs ++ t → take (arity kind) v.stack ≡ reverse t →
       base' ≡ min start base → floor' ≡ base' + min count (base - base') →
       view ys base' floor' ≡ record { below = take start v.below; locals = take count (drop start v.below); stack = take (arity kind) v.stack ++ reverse (drop count (drop start v.below)) }
@@ -242,3 +262,39 @@ no_results (Some k) (x ∷ xs) h = ⊎_elim (λ e. cc) (λ e. absurd (omega (ari
 pub one_result : (kind : Option ValueKind) (stack : List ℕ) → is_some kind ≡ true → 0 < length stack → take (arity kind) stack ≡ top stack ∷ []
 one_result None stack h lt = cc
 one_result (Some k) stack h lt = top_is stack lt
+
+pub kept_discard : (h count : ℕ) (stack : List ℕ) → h ≡ length stack → count < length stack → keep (h - 1 - count) stack ≡ drop count (popped stack)
+kept_discard h count stack e lt =
+    let n : length stack - (h - 1 - count) ≡ 1 + count = omega (arith, e, lt) in
+    ap (λ k. drop k stack) n ∙ sym (ap (drop count) (popped_is stack) ∙ drop-drop count 1 stack)
+
+pub kept_answer : (h count : ℕ) (stack : List ℕ) → h ≡ length stack → count < length stack → popped (keep (h - count) stack) ≡ drop count (popped stack)
+kept_answer h count stack e lt =
+    let n : length stack - (h - count) ≡ count = omega (arith, e, lt) in
+    let m : count + 1 ≡ 1 + count = omega arith in
+    ap (λ k. popped (drop k stack)) n ∙ popped_is (drop count stack) ∙ drop-drop 1 count stack ∙ ap (λ k. drop k stack) m
+    ∙ sym (ap (drop count) (popped_is stack) ∙ drop-drop count 1 stack)
+
+-- values of as many kinds are as many
+pub many : (kinds : List ValueKind) (stack : List ℕ) → all_fit kinds (arguments (length kinds) stack) ≡ true → length kinds ≤ length stack
+many kinds stack h = omega (arith, same kinds (arguments (length kinds) stack) h, length-reverse (take (length kinds) stack), few (length kinds) stack)
+  where
+    few : (n : ℕ) (xs : List ℕ) → length (take n xs) ≤ length xs
+    few n xs = grind (arith, length-take n xs)
+
+    same : (kinds : List ValueKind) (ns : List ℕ) → all_fit kinds ns ≡ true → length kinds ≡ length ns
+    same [] [] h = refl
+    same [] (n ∷ ns) h = cc
+    same (k ∷ ks) [] h = cc
+    same (k ∷ ks) (n ∷ ns) h = ap suc (same ks ns (rest (fits k n) (all_fit ks ns) h))
+      where
+        rest : (a b : Bool) → (a && b) ≡ true → b ≡ true
+        rest true b h = h
+        rest false b h = cc
+
+pub too_few : (kinds : List ValueKind) (stack : List ℕ) → length stack < length kinds → all_fit kinds (arguments (length kinds) stack) ≡ false
+too_few kinds stack lt = go (all_fit kinds (arguments (length kinds) stack)) refl
+  where
+    go : (b : Bool) → all_fit kinds (arguments (length kinds) stack) ≡ b → all_fit kinds (arguments (length kinds) stack) ≡ false
+    go true e = absurd (omega (arith, lt, many kinds stack e))
+    go false e = e

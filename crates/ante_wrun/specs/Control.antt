@@ -1,5 +1,5 @@
 -- What instructions lead a thread to.
-use Rattle.std.specs.Prelude.{◌≡◌, ℕ, zero, suc, ◌<◌, List, map, length, slice_get, Option, Some}
+use Rattle.std.specs.Prelude.{◌≡◌, ℕ, zero, suc, ◌<◌, List, map, length, slice_get, Option, Some, true}
 use denote.Bor.{Bor}
 use Rattle.ante_wmem.specs.HostCalls.{HostMeaning}
 use Rattle.ante_wtree.specs.declared.modules.FuncType.{FuncType}
@@ -13,7 +13,7 @@ use Rattle.ante_wrun.specs.declared.control.Functions.{Functions}
 use Rattle.ante_wrun.specs.declared.control.Next.{Next}
 use Rattle.ante_wrun.specs.declared.control.Next.TheVariants as next
 use Rattle.ante_wrun.specs.Effects.{popped}
-use Rattle.ante_wrun.specs.Meaning.{Outside, FunctionInstance, Own, Given, Missing, Program, State, Outcome, Ended, on_stack, call_host, no_frame, in_frame, does, call}
+use Rattle.ante_wrun.specs.Meaning.{Outside, FunctionInstance, Own, Given, Missing, Program, State, Outcome, Ended, on_stack, arguments, all_fit, call_host, no_frame, in_frame, does, call}
 use Rattle.ante_wrun.specs.Machine.{state_of, going, after}
 
 abbrev pub instance_of : Function → FunctionInstance
@@ -45,4 +45,5 @@ module _ {W R : Type 0} (host : HostMeaning W R) (program : Program) where
   Leads o next.CallDepth t w left last outside = Stops end.CallDepth w left outside o
   Leads o (next.HostCall kind number) t w left last outside =
       let s = state_of t.state w left last outside in
-      (o ≡ after host program t (call_host host kind.now number (on_stack s (popped s.values.stack)))) × (length kind.now.params < length t.state.values.stack) × IsGiven program kind.now number
+      (o ≡ after host program t (call_host host kind.now number (on_stack s (popped s.values.stack)))) × (length kind.now.params < length t.state.values.stack)
+      × (all_fit kind.now.params (arguments (length kind.now.params) (popped s.values.stack)) ≡ true) × IsGiven program kind.now number

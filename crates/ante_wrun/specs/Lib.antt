@@ -3,3 +3,5 @@ pub mod Meaning
 pub mod Frames
 pub mod Machine
 pub mod Control
+pub mod Runs
+pub mod Turns

@@ -1,6 +1,6 @@
 -- The meaning of a body: the execution chapter of WebAssembly Core 1.0 (section 4.4) as recursion on the tree, with the
 -- steps that are paid, the looks at the stop and the frames that there may be. W is the host, R its refusals.
-use Rattle.std.specs.Prelude.{◌≡◌, ℕ, zero, suc, ◌+◌, ◌-◌, ◌/◌, ◌%◌, ◌^◌, Bool, true, false, ◌&&◌, ◌==◌, nat_lt, nat_le, List, [], ◌∷◌, ◌++◌, length, take, drop, reverse, replicate, slice_get, slice_index_or, Option, None, Some, Result, Ok, Err}
+use Rattle.std.specs.Prelude.{◌≡◌, ℕ, zero, suc, ◌+◌, ◌-◌, ◌/◌, ◌%◌, ◌^◌, Bool, true, false, not, ◌&&◌, ◌==◌, nat_lt, nat_le, List, [], ◌∷◌, ◌++◌, length, take, drop, reverse, replicate, slice_get, slice_index_or, Option, None, Some, Result, Ok, Err}
 use Rattle.ante_wmem.specs.Linear.{LinearMemory, page_count, may_grow, growth_answer, grown}
 use Rattle.ante_wmem.specs.HostCalls.{Reply, value, nothing, exit, refused, step_limit, HostMeaning}
 use Rattle.ante_wmem.specs.declared.host.HostAnswer.{HostAnswer}
@@ -298,18 +298,19 @@ module _ {W R : Type 0} (program : Program) (calls : ℕ → State W → Outcome
 
 -- ---- calls
 
--- an argument at the width of its kind
-abbrev pub fitted : ValueKind → ℕ → ℕ
-fitted I32 n = low n
-fitted I64 n = n
+abbrev pub fits : ValueKind → ℕ → Bool
+fits I32 n = nat_lt n (2 ^ 32)
+fits I64 n = nat_lt n (2 ^ 64)
 
-abbrev pub all_fitted : List ValueKind → List ℕ → List ℕ
-all_fitted [] ns = []
-all_fitted (kind ∷ kinds) [] = []
-all_fitted (kind ∷ kinds) (n ∷ ns) = fitted kind n ∷ all_fitted kinds ns
+-- values of these kinds, one each
+abbrev pub all_fit : List ValueKind → List ℕ → Bool
+all_fit [] [] = true
+all_fit [] (n ∷ ns) = false
+all_fit (kind ∷ kinds) [] = false
+all_fit (kind ∷ kinds) (n ∷ ns) = fits kind n && all_fit kinds ns
 
 module _ {W R : Type 0} where
-  -- a call that finds too few operands traps; none of a valid module does
+  -- a call that finds too few operands, or of other kinds, traps; none of a valid module does
   abbrev pub with_operands : Bool → (State W → Outcome W R) → State W → Outcome W R
   with_operands true go s = Ended (end.Trap trap.Unreachable) s
   with_operands false go s = go s
@@ -331,13 +332,13 @@ module _ {W R : Type 0} where
   abbrev pub call_host : HostMeaning W R → FuncType → (number : ℕ) → State W → Outcome W R
   call_host host kind number s =
       let count = length kind.params in
-      let args = all_fitted kind.params (arguments count (stack_of s)) in
+      let args = arguments count (stack_of s) in
       let outcome = host s.world number args s.values.memory s.left in
       host_supplied (s.outside.call_lacks s.outside.calls) number args (of_reply number args (drop count (stack_of s)) outcome.reply outcome.left s) s
 
   abbrev pub of_function : HostMeaning W R → (own : FuncType → ℕ → Expression → State W → Outcome W R) → Option FunctionInstance → State W → Outcome W R
   of_function host own (Some (Own kind locals body)) s = own kind locals body s
-  of_function host own (Some (Given kind number)) s = with_operands (nat_lt (length (stack_of s)) (length kind.params)) (call_host host kind number) s
+  of_function host own (Some (Given kind number)) s = with_operands (not (all_fit kind.params (arguments (length kind.params) (stack_of s)))) (call_host host kind number) s
   of_function host own (Some Missing) s = Ended (end.Trap trap.Unreachable) s
   of_function host own None s = Ended (end.Trap trap.Unreachable) s
 

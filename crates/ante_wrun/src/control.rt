@@ -1,5 +1,5 @@
 //! What one instruction does to a thread (section 4.4.5).
-ghost use Rattle.std.specs.Prelude.{◌≡◌, ℕ, ◌&&◌, ◌==◌, if◌then◌else◌, List, Option, map, length, IfOk, slice_get, slice_index_or};
+ghost use Rattle.std.specs.Prelude.{◌≡◌, ℕ, ◌≤◌, ◌&&◌, ◌==◌, if◌then◌else◌, List, Option, map, length, IfOk, slice_get, slice_index_or};
 ghost use Rattle.std.specs.Option.{option_map, option_copied};
 ghost use Rattle.ante_wtree.specs.Expressions.{put, expression_of};
 ghost use Rattle.ante_wrun.specs.Effects.{low, top, popped};
@@ -176,7 +176,7 @@ pub(crate) fn call_function<'a, H: Host>(
             enter::<H>(thread, alloc, kind, locals, body)
         }
         Some(Function::Host { kind, number }) => {
-            if thread.state.values.height() < kind.params.len() {
+            if !thread.state.values.holds(kind.params.as_slice()) {
                 return Ok(Next::Trap(TrapKind::Unreachable));
             }
             thread.state.values.push(alloc, 0)?;
@@ -213,7 +213,8 @@ fn grow<'a, H: Host>(
     alloc: Global,
     left: &mut u64,
 ) -> Result<Next<'a>, AllocError>
-    ensures { IfOk result (λ next. (program : Program) (w : H) (last : ℕ) (outside : Outside) →
+    ensures falls { left.new ≤ left.old }
+    ensures leads { IfOk result (λ next. (program : Program) (w : H) (last : ℕ) (outside : Outside) →
         let s = state_of thread.old.state w left.old last outside in
         Leads H.meaning program
         (after H.meaning program thread.old (grow (low (top (stack_of s))) (on_stack s (popped (stack_of s)))))
@@ -254,7 +255,8 @@ pub(crate) fn act<'a, H: Host>(
     instr: &'a Instr,
     left: &mut u64,
 ) -> Result<Next<'a>, AllocError>
-    ensures { IfOk result (λ next. (w : H) (last : ℕ) (outside : Outside) →
+    ensures falls { left.new ≤ left.old }
+    ensures leads { IfOk result (λ next. (w : H) (last : ℕ) (outside : Outside) →
         let program = program_of functions.now in
         Leads H.meaning program
         (whole H.meaning program thread.old (acts program (call H.meaning program thread.old.free) (put instr.entry.now (expression_of thread.old.code.now)) (state_of thread.old.state w left.old last outside)))

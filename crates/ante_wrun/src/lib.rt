@@ -5,6 +5,7 @@ mod control;
 mod data;
 mod ends;
 mod plain;
+mod run;
 mod thread;
 mod values;
 

@@ -1,7 +1,7 @@
 //! The locals and operands of all frames in one growing list.
 ghost use Rattle.std.specs.Prelude.{◌≡◌, ◌+◌, ◌*◌, ◌-◌, ◌^◌, ◌<◌, ◌≤◌, List, [], ◌∷◌, ◌++◌, min, length, take, drop, reverse, replicate, slice_index, slice_set, Option, None, Some, OnOk, OnErr};
 ghost use Rattle.ante_wrun.specs.Effects.{top, popped};
-ghost use Rattle.ante_wrun.specs.Meaning.{keep, unwound, arity, arguments, all_fitted};
+ghost use Rattle.ante_wrun.specs.Meaning.{keep, unwound, arity, arguments, fits, all_fit};
 
 use ante_wtree::ValueKind;
 use std::alloc::{AllocError, Global};
@@ -204,10 +204,78 @@ impl ValueStack {
         self.base = at_most(base, end);
         self.floor = self.base + at_most(locals, end - self.base);
     }
+
+    /// Whether the topmost operands are of these kinds.
+    pub(crate) fn holds(&self, kinds: &[ValueKind]) -> bool
+        ensures { result ≡ all_fit kinds.now (arguments (length kinds.now) self.now.stack) }
+    {
+        if self.height() < kinds.len() {
+            return false;
+        }
+        let (_, arguments) = self
+            .items
+            .as_slice()
+            .split_at(self.items.as_slice().len() - kinds.len());
+        all_fit(kinds, arguments)
+    }
+
+    /// The arguments of a call, below the topmost operand.
+    pub(crate) fn arguments(&self, count: usize) -> &[u64]
+        requires { count < length self.now.stack }
+        ensures { result.now ≡ arguments count (popped self.now.stack) }
+    {
+        let end = self.items.as_slice().len() - 1;
+        &self.items.as_slice()[end - count..end]
+    }
+
+    /// Takes the topmost operand off, and the arguments below it.
+    pub(crate) fn discard(&mut self, count: usize)
+        requires { count < length self.old.stack }
+        ensures { self.new ≡ record self.old { stack = drop count (popped self.old.stack) } }
+    {
+        let height = self.height();
+        self.keep(height - 1 - count);
+    }
+
+    /// Puts a value in place of the topmost operand and the arguments below it.
+    pub(crate) fn answer(&mut self, count: usize, value: u64)
+        requires { count < length self.old.stack }
+        ensures { self.new ≡ record self.old { stack = value ∷ drop count (popped self.old.stack) } }
+    {
+        let height = self.height();
+        self.keep(height - count);
+        self.replace(value);
+    }
 }
 
 fn at_most(value: usize, most: usize) -> usize
     ensures { result ≡ min value most }
 {
     if value > most { most } else { value }
+}
+
+fn fits(kind: ValueKind, value: u64) -> bool
+    ensures { result ≡ fits kind value }
+{
+    match kind {
+        ValueKind::I32 => value < 1 << 32,
+        ValueKind::I64 => true,
+    }
+}
+
+fn all_fit(kinds: &[ValueKind], values: &[u64]) -> bool
+    ensures { result ≡ all_fit kinds.now values.now }
+{
+    let (mut kind, mut value) = (kinds, values);
+    'kinds: while let Some((first, kinds)) = kind.split_first() {
+        let Some((number, values)) = value.split_first() else {
+            return false;
+        };
+        if !fits(*first, *number) {
+            return false;
+        }
+        kind = kinds;
+        value = values;
+    }
+    value.is_empty()
 }

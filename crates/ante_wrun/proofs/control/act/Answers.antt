@@ -13,8 +13,8 @@ use Rattle.ante_wrun.proofs.Bodies.{again}
 use Rattle.ante_wrun.proofs.Calls.{if_ok, stops, ended, traps, conditional}
 use Rattle.ante_wrun.proofs.control.act.Goals as goal
 
-pub returns-in-Some : goal.returns-in-Some
-returns-in-Some g c = λ w last outside.
+pub returns-in-Some-clause-leads : goal.returns-in-Some-clause-leads
+returns-in-Some-clause-leads g c = λ w last outside.
     let P = program_of c.args.functions.now in
     let t = c.args.thread.now in
     let s = state_of t.state w c.args.left.now last outside in
@@ -28,8 +28,8 @@ returns-in-Some g c = λ w last outside.
       refl,
     )
 
-pub returns-in_ok-push-in-Block : goal.returns-in_ok-push-in-Block
-returns-in_ok-push-in-Block g c = λ w last outside.
+pub returns-in_ok-push-in-Block-clause-leads : goal.returns-in_ok-push-in-Block-clause-leads
+returns-in_ok-push-in-Block-clause-leads g c = λ w last outside.
     let P = program_of c.args.functions.now in
     let t = c.args.thread.now in
     let s = state_of t.state w c.args.left.now last outside in
@@ -38,8 +38,8 @@ returns-in_ok-push-in-Block g c = λ w last outside.
     e ∙ ap (λ h. m (frame.Block c.in-Block.kind h t.code ∷ t.frames) (does P (call g.H.Host.meaning P t.free) (expression_of c.in-Block.body.now) s)) (sym c.height-height.ensures)
     ∙ ap (λ fs. m fs (does P (call g.H.Host.meaning P t.free) (expression_of c.in-Block.body.now) s)) (sym c.in_ok-push-in-Block.ensures.ok)
 
-pub returns-in_ok-push-in-Loop : goal.returns-in_ok-push-in-Loop
-returns-in_ok-push-in-Loop g c = λ w last outside.
+pub returns-in_ok-push-in-Loop-clause-leads : goal.returns-in_ok-push-in-Loop-clause-leads
+returns-in_ok-push-in-Loop-clause-leads g c = λ w last outside.
     let P = program_of c.args.functions.now in
     let t = c.args.thread.now in
     let s = state_of t.state w c.args.left.now last outside in
@@ -49,8 +49,8 @@ returns-in_ok-push-in-Loop g c = λ w last outside.
     ∙ ap (λ h. m (frame.Loop h c.in-Loop.body t.code ∷ t.frames) (does P (call g.H.Host.meaning P t.free) (expression_of c.in-Loop.body.now) s)) (sym c.height-height-in-Loop.ensures)
     ∙ ap (λ fs. m fs (does P (call g.H.Host.meaning P t.free) (expression_of c.in-Loop.body.now) s)) (sym c.in_ok-push-in-Loop.ensures.ok)
 
-pub returns-in_ok-push-in-If : goal.returns-in_ok-push-in-If
-returns-in_ok-push-in-If g c = λ w last outside.
+pub returns-in_ok-push-in-If-clause-leads : goal.returns-in_ok-push-in-If-clause-leads
+returns-in_ok-push-in-If-clause-leads g c = λ w last outside.
     let P = program_of c.args.functions.now in
     let t = c.args.thread.now in
     let s = state_of t.state w c.args.left.now last outside in
@@ -60,8 +60,8 @@ returns-in_ok-push-in-If g c = λ w last outside.
     e ∙ conditional g.H.Host.meaning P w c.args.left.now last outside t.free t.frames c.push-in-If.new.self t.state c.in-If.kind c.height-height-in-If.result t.code c.in-If.one c.in-If.two c.chosen-thread.result
     (low (top t.state.values.stack) == 0) (c.low-test.result == 0) c.pop.new.self (ap (λ k. k == 0) n) c.chosen-thread.ensures c.pop.ensures.rest c.height-height-in-If.ensures c.in_ok-push-in-If.ensures.ok
 
-pub returns-else-low-eq0 : goal.returns-else-low-eq0
-returns-else-low-eq0 g c = λ w last outside.
+pub returns-else-low-eq0-clause-leads : goal.returns-else-low-eq0-clause-leads
+returns-else-low-eq0-clause-leads g c = λ w last outside.
     let P = program_of c.args.functions.now in
     let t = c.args.thread.now in
     let s = state_of t.state w c.args.left.now last outside in
@@ -73,8 +73,8 @@ returns-else-low-eq0 g c = λ w last outside.
     ∙ ap (λ v. under g.H.Host.meaning P t.free v.below t.frames (Branch c.in-BrIf.depth (state_of (record t.state { values = v }) w c.args.left.now last outside))) (sym c.pop-in-BrIf.ensures.rest)
     ∙ c.branch-thread-in-BrIf.ensures P w c.args.left.now last outside
 
-pub returns-in-BrTable : goal.returns-in-BrTable
-returns-in-BrTable g c = λ w last outside.
+pub returns-in-BrTable-clause-leads : goal.returns-in-BrTable-clause-leads
+returns-in-BrTable-clause-leads g c = λ w last outside.
     let P = program_of c.args.functions.now in
     let t = c.args.thread.now in
     let s = state_of t.state w c.args.left.now last outside in
@@ -85,8 +85,8 @@ returns-in-BrTable g c = λ w last outside.
     ∙ ap (λ v. under g.H.Host.meaning P t.free v.below t.frames (Branch c.label-depth.result (state_of (record t.state { values = v }) w c.args.left.now last outside))) (sym c.pop-in-BrTable.ensures.rest)
     ∙ c.branch-thread-in-BrTable.ensures P w c.args.left.now last outside
 
-pub returns-in-Call : goal.returns-in-Call
-returns-in-Call g c =
+pub returns-in-Call-clause-leads : goal.returns-in-Call-clause-leads
+returns-in-Call-clause-leads g c =
     let P = program_of c.args.functions.now in
     let t = c.args.thread.now in
     if_ok c.call_function.result _ _
@@ -96,8 +96,8 @@ returns-in-Call g c =
     (h w c.args.left.now last outside))
     c.call_function.ensures
 
-pub returns-in-CallIndirect : goal.returns-in-CallIndirect
-returns-in-CallIndirect g c =
+pub returns-in-CallIndirect-clause-leads : goal.returns-in-CallIndirect-clause-leads
+returns-in-CallIndirect-clause-leads g c =
     let P = program_of c.args.functions.now in
     let t = c.args.thread.now in
     if_ok c.call_indirect.result _ _
@@ -107,8 +107,8 @@ returns-in-CallIndirect g c =
     (h w c.args.left.now last outside))
     c.call_indirect.ensures
 
-pub returns-in-MemoryGrow : goal.returns-in-MemoryGrow
-returns-in-MemoryGrow g c =
+pub returns-in-MemoryGrow-clause-leads : goal.returns-in-MemoryGrow-clause-leads
+returns-in-MemoryGrow-clause-leads g c =
     let P = program_of c.args.functions.now in
     let t = c.args.thread.now in
     if_ok c.grow.result _ _
@@ -116,4 +116,4 @@ returns-in-MemoryGrow g c =
     subst (λ o. Leads g.H.Host.meaning P o next c.grow.new.thread w c.grow.new.left last outside)
     (sym (ap (λ x. whole g.H.Host.meaning P t (acts P (call g.H.Host.meaning P t.free) x (state_of t.state w c.args.left.now last outside))) (c.in-MemoryGrow.ensures (expression_of t.code.now))))
     (h P w last outside))
-    c.grow.ensures
+    c.grow.ensures.leads

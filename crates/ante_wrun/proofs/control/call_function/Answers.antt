@@ -1,18 +1,19 @@
-use Rattle.std.proofs.Common.{◌≡◌, ℕ, ◌<◌, ◌≤◌, Some, None, length, refl, sym, ap, subst, ◌∙◌, arith}
-use Rattle.std.specs.Prelude.{slice_get}
+use Rattle.std.proofs.Common.{◌≡◌, ℕ, ◌<◌, ◌≤◌, Some, None, true, false, length, refl, sym, ap, subst, ◌∙◌, arith}
+use Rattle.std.specs.Prelude.{slice_get, not}
 use Rattle.std.proofs.lemmas.Bool.{lt-ltb}
 use Rattle.ante_wtree.specs.Expressions.{expression_of}
 use Rattle.ante_wrun.specs.declared.ends.RunEnd.TheVariants as end
 use Rattle.ante_wrun.specs.declared.ends.TrapKind.TheVariants as trap
 use Rattle.ante_wrun.specs.Effects.{popped}
-use Rattle.ante_wrun.specs.Meaning.{Own, Given, Missing, and_then, with_operands, call_host, on_stack, stack_of, call}
+use Rattle.ante_wrun.specs.Meaning.{Own, Given, Missing, and_then, with_operands, call_host, on_stack, stack_of, arguments, all_fit, call}
 use Rattle.ante_wrun.specs.Machine.{state_of, rest_of, under, after}
 use Rattle.ante_wrun.specs.Control.{instance_of, program_of, Leads}
-use Rattle.ante_wrun.proofs.Calls.{found, if_ok, stops, calls, not_lt}
+use Rattle.ante_wrun.proofs.Calls.{found, if_ok, stops, calls}
+use Rattle.ante_wrun.proofs.Regions.{many}
 use Rattle.ante_wrun.proofs.control.call_function.Goals as goal
 
-pub returns-then-height-len : goal.returns-then-height-len
-returns-then-height-len g c = λ w left last outside.
+pub returns-then-not-holds : goal.returns-then-not-holds
+returns-then-not-holds g c = λ w left last outside.
     let program = program_of c.args.functions.now in
     let t = c.args.thread.now in
     let s = state_of t.state w left last outside in
@@ -21,7 +22,7 @@ returns-then-height-len g c = λ w left last outside.
     stops g.H.Host.meaning program t.free t.state.values.below t.frames (rest_of g.H.Host.meaning program t) (call g.H.Host.meaning program t.free c.args.at s) (end.Trap trap.Unreachable) s
     (calls g.H.Host.meaning program t.free c.args.at s (Some (Given kind c.in-Some-Host.number)) f
     ∙ ap (λ b. with_operands b (call_host g.H.Host.meaning kind c.in-Some-Host.number) s)
-    (lt-ltb (length t.state.values.stack) (length kind.params) (omega (arith, c.if-height-len.true, c.height.ensures, c.len.ensures))))
+    (ap not (ap (λ ks. all_fit ks (arguments (length ks) t.state.values.stack)) (sym c.as_slice-in-Some-Host.ensures) ∙ sym c.holds.ensures ∙ c.if-not-holds.true)))
 
 pub returns-in-Some-Own : goal.returns-in-Some-Own
 returns-in-Some-Own g c =
@@ -43,14 +44,17 @@ returns-in_ok-push-in-Some-Host g c = λ w left last outside.
     let kind = c.in-Some-Host.kind.now in
     let number = c.in-Some-Host.number in
     let f = found c.args.functions.now.all.items c.args.at (Some c.in-Some-Host.field-0) (c.in-Some-Host.ensures ∙ ap (λ xs. slice_get xs c.args.at) c.as_slice.ensures.value) ∙ ap (λ f. Some (instance_of f)) c.in-Some-Host.field-0-is in
-    let enough : length kind.params ≤ length t.state.values.stack = omega (arith, c.if-height-len.false, c.height.ensures, c.len.ensures) in (
+    let fit : all_fit kind.params (arguments (length kind.params) t.state.values.stack) ≡ true =
+    ap (λ ks. all_fit ks (arguments (length ks) t.state.values.stack)) (sym c.as_slice-in-Some-Host.ensures) ∙ sym c.holds.ensures ∙ c.if-not-holds.false in
+    let enough = many kind.params t.state.values.stack fit in (
       ap (after g.H.Host.meaning program t)
           (calls g.H.Host.meaning program t.free c.args.at s (Some (Given kind number)) f
-          ∙ ap (λ b. with_operands b (call_host g.H.Host.meaning kind number) s) (not_lt (length t.state.values.stack) (length kind.params) enough))
+          ∙ ap (λ b. with_operands b (call_host g.H.Host.meaning kind number) s) (ap not fit))
           ∙ ap (λ v. under g.H.Host.meaning program t.free v.below t.frames
           (and_then (call_host g.H.Host.meaning kind number (on_stack (state_of (record t.state { values = v }) w left last outside) (popped v.stack))) (rest_of g.H.Host.meaning program t)))
           (sym c.in_ok-push-in-Some-Host.ensures),
       omega (arith, enough, ap (λ v. length v.stack) c.in_ok-push-in-Some-Host.ensures),
+      ap (λ v. all_fit kind.params (arguments (length kind.params) (popped v.stack))) c.in_ok-push-in-Some-Host.ensures ∙ fit,
       (c.args.at, f),
     )
 

@@ -8,8 +8,8 @@ use Rattle.ante_wrun.specs.Machine.{state_of, rest_of}
 use Rattle.ante_wrun.proofs.Calls.{stops, dear}
 use Rattle.ante_wrun.proofs.control.grow.Goals as goal
 
-pub returns-then-from-left : goal.returns-then-from-left
-returns-then-from-left g c = λ program w last outside.
+pub returns-then-from-left-clause-leads : goal.returns-then-from-left-clause-leads
+returns-then-from-left-clause-leads g c = λ program w last outside.
     let t = c.args.thread.now in
     let stack = t.state.values.stack in
     let s = on_stack (state_of t.state w c.args.left.now last outside) (popped stack) in
