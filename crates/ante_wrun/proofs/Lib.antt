@@ -3,3 +3,4 @@ pub mod Regions
 pub mod Signs
 pub mod Bodies
 pub mod Calls
+pub mod Turning

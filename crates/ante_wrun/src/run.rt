@@ -1,5 +1,5 @@
 //! The loop of a run: looks, steps, instructions and host calls.
-ghost use Rattle.std.specs.Prelude.{◌≡◌, ℕ, suc, ◌<◌, List, length, Ok, None};
+ghost use Rattle.std.specs.Prelude.{◌≡◌, ℕ, suc, ◌<◌, ◌≤◌, List, length, Ok, None};
 ghost use Rattle.ante_base.specs.Stops.{Looks};
 ghost use Rattle.ante_wmem.specs.HostCalls.{StaysAllowed};
 ghost use Rattle.ante_wrun.specs.Effects.{popped};
@@ -93,6 +93,7 @@ fn host_call<'a, H: Host>(
         let s = on_stack (state_of thread.old.state host.old left.old last outside) (popped thread.old.state.values.stack) in
         HostLeads H.meaning H.stands program (after H.meaning program thread.old (call_host H.meaning kind.now number s)) result thread.new host.new left.new last outside }
     ensures after { StaysAllowed H.allowed host.old left.old host.new left.new }
+    ensures falls { left.new ≤ left.old }
 {
     let count = kind.params.len();
     let args = thread.state.values.arguments(count);
@@ -133,8 +134,9 @@ fn turn<'a, H: Host, P: Stop>(
     ensures falls { result ≡ Ok Progress.Go → left.new < left.old }
     ensures allowed { result ≡ Ok Progress.Go → MayBelow H.allowed (program_of functions.now) host.new left.new }
 {
-    let Some(instr) = next_instr::<H>(thread) else {
-        return Ok(Progress::Over);
+    let instr = match next_instr::<H>(thread) {
+        Some(instr) => instr,
+        None => return Ok(Progress::Over),
     };
     match pay(stop, left, last) {
         Paid::Yes => {}
