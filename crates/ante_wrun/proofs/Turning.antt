@@ -1,5 +1,5 @@
 -- The parts of a turn of the loop: the look, the step, and what the instruction leads to.
-use Rattle.std.proofs.Common.{◌≡◌, ℕ, zero, suc, ◌<◌, ◌≤◌, Bool, true, false, List, [], ◌∷◌, length, take, drop, Option, None, Some, refl, sym, ap, subst, ◌∙◌, arith}
+use Rattle.std.proofs.Common.{◌≡◌, ℕ, zero, suc, ◌<◌, ◌≤◌, Bool, true, false, List, [], ◌∷◌, ◌++◌, length, take, drop, Option, None, Some, refl, sym, ap, subst, ◌∙◌, arith}
 use denote.Bor.{Bor}
 use Rattle.ante_base.specs.Stops.{Looks}
 use Rattle.ante_wmem.specs.Linear.{LinearMemory}
@@ -10,17 +10,18 @@ use Rattle.ante_wmem.specs.declared.host.HostAnswer.TheVariants as answer
 use Rattle.ante_wtree.specs.declared.instructions.Instr.{Instr}
 use Rattle.ante_wtree.specs.declared.instructions.Instr.TheVariants as instr
 use Rattle.ante_wtree.specs.declared.modules.FuncType.{FuncType}
-use Rattle.ante_wtree.specs.Expressions.{Expression, expression_of, put}
+use Rattle.ante_wtree.specs.Expressions.{Expression, Over, expression_of, put}
 use Rattle.ante_wrun.specs.declared.ends.RunEnd.{RunEnd}
 use Rattle.ante_wrun.specs.declared.ends.RunEnd.TheVariants as end
 use Rattle.ante_wrun.specs.declared.thread.Frame.{Frame}
 use Rattle.ante_wrun.specs.declared.thread.Frame.TheVariants as frame
 use Rattle.ante_wrun.specs.declared.thread.Thread.{Thread}
-use Rattle.ante_wrun.specs.Meaning.{Outside, after_look, after_item, after_call, Program, State, Outcome, Ended, Lacks, InHost, stack_of, arguments, supplied, pay, seen, step, starts, due, of_reply, host_supplied, call_host, acts, does, call}
-use Rattle.ante_wrun.specs.Machine.{state_of, under, whole, going, Finds}
+use Rattle.ante_wrun.specs.Meaning.{Outside, after_look, after_item, after_call, Program, State, Outcome, Normal, Branch, Returned, Ended, Lacks, InHost, and_then, settled, invoked, stack_of, arguments, supplied, pay, seen, step, starts, due, of_reply, host_supplied, call_host, acts, does, call}
+use Rattle.ante_wrun.specs.Machine.{state_of, under, whole, going, after, Finds}
 use Rattle.ante_wrun.specs.Control.{Stops}
-use Rattle.ante_wrun.specs.Runs.{Event, Looked, Supplied, CallSupplied, Begins, past, looks_of, ByEvents, Ends, Lacking, Wanting}
+use Rattle.ante_wrun.specs.Runs.{Event, Looked, Supplied, CallSupplied, asked, Begins, past, looks_of, ByEvents, Ends, Lacking, Wanting}
 use Rattle.ante_wrun.specs.Turns.{MayLook}
+use Rattle.ante_wrun.proofs.Bodies.{no_items}
 use Rattle.ante_wrun.proofs.Calls.{ended}
 
 -- ---- events of a step
@@ -254,3 +255,75 @@ module _ {S W R : Type 0} (host : HostMeaning W R) (stands : W → ℕ → List 
 -- an outside, to read facts that hold of each
 pub some_outside : Outside
 some_outside = record { looks = 0; look_answer = λ n. None; items = 0; item_lacks = λ n. false; calls = 0; call_lacks = λ n. false }
+
+-- ---- one stretch after another
+
+begins-front : (xs ys : List Event) (v : Outside) → Begins v (xs ++ ys) → Begins v xs
+begins-front [] ys v h = tt
+begins-front (x ∷ xs) ys v h = (h.0, begins-front xs ys (asked x v) h.1)
+
+begins-back : (xs ys : List Event) (v : Outside) → Begins v (xs ++ ys) → Begins (past v xs) ys
+begins-back [] ys v h = h
+begins-back (x ∷ xs) ys v h = begins-back xs ys (asked x v) h.1
+
+past-append : (xs ys : List Event) (v : Outside) → past v (xs ++ ys) ≡ past (past v xs) ys
+past-append [] ys v = refl
+past-append (x ∷ xs) ys v = past-append xs ys (asked x v)
+
+looks-append : {S : Type 0} (may : S → Option ℕ → S → Type 0) (old mid new : S) (xs ys : List Event) → Looks may old (looks_of xs) mid → Looks may mid (looks_of ys) new → Looks may old (looks_of (xs ++ ys)) new
+looks-append may old mid new [] ys h k = subst (λ s. Looks may s (looks_of ys) new) h k
+looks-append may old mid new (Looked a ∷ xs) ys h k = (h.0, h.1, looks-append may h.0 mid new xs ys h.2 k)
+looks-append may old mid new (Supplied ∷ xs) ys h k = looks-append may old mid new xs ys h k
+looks-append may old mid new (CallSupplied ∷ xs) ys h k = looks-append may old mid new xs ys h k
+
+module _ {S W R : Type 0} where
+  pub more_events : (may : S → Option ℕ → S → Type 0) (old mid new : S) (F A : Outside → Outcome W R) (Q : Outcome W R → Outside → Type 0) →
+      ByEvents may old mid (λ events. (v : Outside) → Begins v events → F v ≡ A (past v events)) →
+      ByEvents may mid new (λ events. (u : Outside) → Begins u events → Q (A u) (past u events)) →
+      ByEvents may old new (λ events. (v : Outside) → Begins v events → Q (F v) (past v events))
+  more_events may old mid new F A Q h k = (
+    h.0 ++ k.0,
+    looks-append may old mid new h.0 k.0 h.1 k.1,
+    λ v b.
+        let e = h.2 v (begins-front h.0 k.0 v b) in
+        let q = k.2 (past v h.0) (begins-back h.0 k.0 v b) in
+        subst (λ x. Q (F v) x) (sym (past-append h.0 k.0 v)) (subst (λ o. Q o (past (past v h.0) k.0)) (sym e) q),
+  )
+
+-- ---- calls from outside
+
+module _ {W R : Type 0} (host : HostMeaning W R) (program : Program) where
+  outer : (t : Thread) → length t.code.now ≡ 0 → t.frames ≡ [] → (o : Outcome W R) → after host program t o ≡ settled o
+  outer t c f o =
+      ap (λ fs. under host program t.free t.state.values.below fs (and_then o (does program (call host program t.free) (expression_of t.code.now)))) f
+      ∙ ap (λ code. settled (and_then o (does program (call host program t.free) (expression_of code)))) (no_items t.code.now c)
+      ∙ over o
+    where
+      over : (o : Outcome W R) → settled (and_then o (does program (call host program t.free) Over)) ≡ settled o
+      over (Normal s) = refl
+      over (Branch n s) = refl
+      over (Returned s) = refl
+      over (Ended e s) = refl
+      over (Lacks s) = refl
+      over (InHost f args a n s) = refl
+
+  pub called : (t : Thread) → length t.code.now ≡ 0 → t.frames ≡ [] → (f : ℕ) (s : State W) → s.outside.item_lacks s.outside.items ≡ false →
+      invoked host program t.free f s ≡ after host program t (call host program t.free f (record s { outside = after_item s.outside }))
+  called t c e f s h = ap (λ b. supplied b s (λ x. settled (call host program t.free f x))) h ∙ sym (outer t c e (call host program t.free f (record s { outside = after_item s.outside })))
+
+module _ {S W R : Type 0} (host : HostMeaning W R) (program : Program) (may : S → Option ℕ → S → Type 0) (old : S) (w : W) (t : Thread)
+    (idle : length t.code.now ≡ 0) (bare : t.frames ≡ []) (f left last : ℕ) where
+  abbrev pub outset : Outside → Outcome W R
+  outset v = invoked host program t.free f (state_of t.state w left last v)
+
+  abbrev pub called_at : Outside → Outcome W R
+  called_at u = after host program t (call host program t.free f (state_of t.state w left last u))
+
+  pub invoke_by : (Q : Outcome W R → Outside → Type 0) (tail : List Event) → looks_of tail ≡ [] → ((u : Outside) → Begins u tail → Q (called_at u) (past u tail)) →
+      ByEvents may old old (λ events. (v : Outside) → Begins v events → Q (outset v) (past v events))
+  invoke_by Q tail e then' = (
+    Supplied ∷ tail,
+    subst (λ x. Looks may old x old) (sym e) refl,
+    λ v b.
+        subst (λ o. Q o (past (after_item v) tail)) (sym (called host program t idle bare f (state_of t.state w left last v) b.0)) (then' (after_item v) b.1),
+  )

@@ -357,3 +357,7 @@ module _ {W R : Type 0} (host : HostMeaning W R) (program : Program) where
   abbrev pub call : (free : ℕ) → ℕ → State W → Outcome W R
   call zero f s = of_function host no_frame (slice_get program.functions f) s
   call (suc free) f s = of_function host (in_frame (does program (call free))) (slice_get program.functions f) s
+
+  -- a call from outside, for which memory may be wanted as for an instruction
+  abbrev pub invoked : (free : ℕ) → ℕ → State W → Outcome W R
+  invoked free f s = supplied (s.outside.item_lacks s.outside.items) s (λ t. settled (call free f t))

@@ -4,6 +4,7 @@ use Rattle.std.specs.declared.alloc.AllocError.{AllocError}
 use Rattle.ante_wmem.specs.Linear.{LinearMemory}
 use Rattle.ante_wmem.specs.HostCalls.{HostMeaning}
 use Rattle.ante_wmem.specs.declared.host.HostAnswer.{HostAnswer}
+use Rattle.ante_wrun.specs.declared.ends.RunEnd.{RunEnd}
 use Rattle.ante_wrun.specs.declared.thread.Thread.{Thread}
 use Rattle.ante_wrun.specs.declared.run.Paid.{Paid}
 use Rattle.ante_wrun.specs.declared.run.Paid.TheVariants as paid
@@ -44,3 +45,10 @@ module _ {W R : Type 0} (host : HostMeaning W R) (stands : W → ℕ → List �
   TurnLeads o (Ok progress.Over) t w left last outside = o ≡ Normal (state_of t.state w left last outside)
   TurnLeads o (Ok (progress.Ended e)) t w left last outside = Ends stands e w left outside o
   TurnLeads o (Err e) t w left last outside = Wanting outside → Lacking stands w left outside o
+
+module _ {W R : Type 0} (stands : W → ℕ → List ℕ → LinearMemory → ℕ → HostAnswer R → W → Type 0) where
+  -- a run to the end of the last body, or to its own end
+  abbrev pub RunLeads : Outcome W R → Result (Option (RunEnd R)) AllocError → Thread → W → (left last : ℕ) → Outside → Type 0
+  RunLeads o (Ok None) t w left last outside = o ≡ Normal (state_of t.state w left last outside)
+  RunLeads o (Ok (Some e)) t w left last outside = Ends stands e w left outside o
+  RunLeads o (Err e) t w left last outside = Wanting outside → Lacking stands w left outside o

@@ -1,15 +1,15 @@
 //! The loop of a run: looks, steps, instructions and host calls.
-ghost use Rattle.std.specs.Prelude.{◌≡◌, ℕ, suc, ◌<◌, ◌≤◌, List, length, Ok, None};
+ghost use Rattle.std.specs.Prelude.{◌≡◌, ℕ, suc, ◌<◌, ◌≤◌, List, [], length, Ok, None};
 ghost use Rattle.ante_base.specs.Stops.{Looks};
 ghost use Rattle.ante_wmem.specs.HostCalls.{StaysAllowed};
 ghost use Rattle.ante_wrun.specs.Effects.{popped};
-ghost use Rattle.ante_wrun.specs.Meaning.{Outside, Program, round, due, arguments, on_stack, call_host};
+ghost use Rattle.ante_wrun.specs.Meaning.{Outside, Program, invoked, round, due, arguments, on_stack, call_host};
 ghost use Rattle.ante_wrun.specs.Machine.{state_of, going, after};
 ghost use Rattle.ante_wrun.specs.Control.{program_of};
 ghost use Rattle.ante_wrun.specs.Runs.{Begins, past, ByEvents, MayCall, MayBelow};
-ghost use Rattle.ante_wrun.specs.Turns.{MayLook, look_of, Pays, HostLeads, TurnLeads};
+ghost use Rattle.ante_wrun.specs.Turns.{MayLook, look_of, Pays, HostLeads, TurnLeads, RunLeads};
 
-use crate::control::{Functions, Next, act};
+use crate::control::{Functions, Next, act, call_function};
 use crate::ends::RunEnd;
 use crate::thread::{Thread, next_instr};
 use ante_base::Stop;
@@ -133,6 +133,7 @@ fn turn<'a, H: Host, P: Stop>(
         result thread.new host.new left.new last.new (past outside events)) }
     ensures falls { result ≡ Ok Progress.Go → left.new < left.old }
     ensures allowed { result ≡ Ok Progress.Go → MayBelow H.allowed (program_of functions.now) host.new left.new }
+    ensures over { result ≡ Ok Progress.Over → MayBelow H.allowed (program_of functions.now) host.new left.new }
 {
     let instr = match next_instr::<H>(thread) {
         Some(instr) => instr,
@@ -157,5 +158,66 @@ fn turn<'a, H: Host, P: Stop>(
             *left = *last;
             Err(error)
         }
+    }
+}
+
+/// Runs until the last body has ended, which answers none, or the run has ended before.
+fn run_thread<'a, H: Host, P: Stop>(
+    thread: &mut Thread<'a>,
+    functions: &Functions<'a>,
+    alloc: Global,
+    host: &mut H,
+    stop: &mut P,
+    left: &mut u64,
+    last: &mut u64,
+) -> Result<Option<RunEnd<H::Refusal>>, AllocError>
+    requires { MayBelow H.allowed (program_of functions.now) host.old left.old }
+    ensures leads { let program = program_of functions.now in
+        ByEvents P.may stop.old stop.new (λ events. (outside : Outside) → Begins outside events →
+        RunLeads H.stands (going H.meaning program thread.old (state_of thread.old.state host.old left.old last.old outside))
+        result thread.new host.new left.new last.new (past outside events)) }
+    ensures allowed { result ≡ Ok None → MayBelow H.allowed (program_of functions.now) host.new left.new }
+{
+    'turns: loop {
+        match turn(thread, functions, alloc, host, stop, left, last) {
+            Ok(Progress::Go) => {}
+            Ok(Progress::Over) => return Ok(None),
+            Ok(Progress::Ended(end)) => return Ok(Some(end)),
+            Err(error) => return Err(error),
+        }
+    }
+}
+
+/// Calls a function from outside and runs it to its end.
+pub(crate) fn invoke<'a, H: Host, P: Stop>(
+    thread: &mut Thread<'a>,
+    functions: &Functions<'a>,
+    alloc: Global,
+    host: &mut H,
+    stop: &mut P,
+    left: &mut u64,
+    last: &mut u64,
+    function: u32,
+) -> Result<Option<RunEnd<H::Refusal>>, AllocError>
+    requires idle { (length thread.old.code.now ≡ 0) × (thread.old.frames ≡ []) }
+    requires below { MayBelow H.allowed (program_of functions.now) host.old left.old }
+    requires here { MayCall H.allowed (program_of functions.now) host.old left.old }
+    ensures leads { let program = program_of functions.now in
+        ByEvents P.may stop.old stop.new (λ events. (outside : Outside) → Begins outside events →
+        RunLeads H.stands (invoked H.meaning program thread.old.free function (state_of thread.old.state host.old left.old last.old outside))
+        result thread.new host.new left.new last.new (past outside events)) }
+    ensures allowed { result ≡ Ok None → MayBelow H.allowed (program_of functions.now) host.new left.new }
+{
+    match call_function::<H>(thread, functions, alloc, function) {
+        Ok(Next::Go) => run_thread(thread, functions, alloc, host, stop, left, last),
+        Ok(Next::Trap(kind)) => Ok(Some(RunEnd::Trap(kind))),
+        Ok(Next::StepLimit) => Ok(Some(RunEnd::StepLimit)),
+        Ok(Next::CallDepth) => Ok(Some(RunEnd::CallDepth)),
+        Ok(Next::HostCall(kind, number)) => match host_call(thread, host, kind, number, left) {
+            HostNext::Go => run_thread(thread, functions, alloc, host, stop, left, last),
+            HostNext::Ended(end) => Ok(Some(end)),
+            HostNext::Lacks => Err(AllocError),
+        },
+        Err(error) => Err(error),
     }
 }
