@@ -19,12 +19,14 @@ use Rattle.ante_wrun.specs.declared.data.Data.{Data}
 use Rattle.ante_wrun.specs.declared.thread.Frame.{Frame}
 use Rattle.ante_wrun.specs.declared.thread.Frame.TheVariants as frame
 use Rattle.ante_wrun.specs.declared.control.Function.{Function}
+use Rattle.ante_wrun.specs.declared.control.Next.{Next as After}
+use Rattle.ante_wrun.specs.declared.control.Next.TheVariants as next
 use Rattle.ante_wrun.specs.declared.ends.TrapKind.{TrapKind}
 use Rattle.ante_wrun.specs.Effects.{Effect, Next, Traps, popped}
 use Rattle.ante_wrun.specs.Meaning.{Outside, Program, FunctionInstance, Own, Given, State, Outcome, Ended, and_then, of_function, with_operands, chosen, of_block, call_own, call_host, on_stack, stack_of, result_of, arguments, pay_pages, grow_if, grow, grown_by, does, call}
 use Rattle.ante_wrun.specs.Frames.{FrameValues, Open, InCall, unwind}
 use Rattle.ante_wrun.specs.Machine.{opens, state_of, under, Does}
-use Rattle.ante_wrun.specs.Control.{instance_of, own_at, Stops}
+use Rattle.ante_wrun.specs.Control.{instance_of, own_at, Stops, NotHostCall, GivenAt}
 use Rattle.ante_wrun.proofs.Bodies.{here, goes}
 
 pub not_lt : (m n : ℕ) → n ≤ m → nat_lt m n ≡ false
@@ -38,6 +40,13 @@ found all at o e = same all at ∙ ap (option_map instance_of) (sym e)
     same [] at = refl
     same (f ∷ fs) zero = refl
     same (f ∷ fs) (suc at) = same fs at
+
+pub not_host : (program : Program) (at : ℕ) (n : After) → NotHostCall n → GivenAt program at n
+not_host program at next.Go h = tt
+not_host program at (next.Trap kind) h = tt
+not_host program at next.StepLimit h = tt
+not_host program at next.CallDepth h = tt
+not_host program at (next.HostCall kind number) h = absurd h
 
 pub if_ok : {A E : Type 0} (r : Result A E) (P Q : A → Type 0) → ((x : A) → P x → Q x) → IfOk r P → IfOk r Q
 if_ok (Ok x) P Q f h = f x h

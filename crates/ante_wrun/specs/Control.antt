@@ -28,6 +28,21 @@ program_of f = record { types = f.types.now; functions = map instance_of f.all.i
 abbrev pub IsGiven : Program → FuncType → ℕ → Type 0
 IsGiven program kind number = (f : ℕ) × (slice_get program.functions f ≡ Some (Given kind number))
 
+abbrev pub NotHostCall : Next → Type 0
+NotHostCall next.Go = Unit {0}
+NotHostCall (next.Trap kind) = Unit {0}
+NotHostCall next.StepLimit = Unit {0}
+NotHostCall next.CallDepth = Unit {0}
+NotHostCall (next.HostCall kind number) = ⊥
+
+-- a host call is that of the function of this number
+abbrev pub GivenAt : Program → ℕ → Next → Type 0
+GivenAt program at next.Go = Unit {0}
+GivenAt program at (next.Trap kind) = Unit {0}
+GivenAt program at next.StepLimit = Unit {0}
+GivenAt program at next.CallDepth = Unit {0}
+GivenAt program at (next.HostCall kind number) = slice_get program.functions at ≡ Some (Given kind.now number)
+
 -- the run has ended so
 abbrev pub Stops : {W R : Type 0} → RunEnd R → W → ℕ → Outside → Outcome W R → Type 0
 Stops {W} {R} e w left outside o = (s : State W) × (o ≡ Ended e s) × (s.world ≡ w) × (s.left ≡ left) × (s.outside ≡ outside)

@@ -1,5 +1,5 @@
 -- How runs end, and what is asked of the outside while they last.
-use Rattle.std.specs.Prelude.{◌≡◌, ℕ, suc, ◌<◌, ◌≤◌, true, false, List, [], ◌∷◌, length, Option, None, Some, Result, Ok, Err}
+use Rattle.std.specs.Prelude.{◌≡◌, ℕ, suc, ◌<◌, ◌≤◌, true, false, List, [], ◌∷◌, length, slice_get, Option, None, Some, Result, Ok, Err}
 use Rattle.ante_base.specs.Stops.{Looks}
 use Rattle.ante_wmem.specs.Linear.{LinearMemory}
 use Rattle.ante_wmem.specs.declared.host.HostAnswer.{HostAnswer}
@@ -7,7 +7,7 @@ use Rattle.ante_wmem.specs.declared.host.HostAnswer.TheVariants as answer
 use Rattle.ante_wtree.specs.declared.modules.FuncType.{FuncType}
 use Rattle.ante_wrun.specs.declared.ends.RunEnd.{RunEnd}
 use Rattle.ante_wrun.specs.declared.ends.RunEnd.TheVariants as end
-use Rattle.ante_wrun.specs.Meaning.{Outside, after_look, after_item, after_call, Program, State, Outcome, Normal, Branch, Returned, Ended, Lacks, InHost, due, all_fit}
+use Rattle.ante_wrun.specs.Meaning.{Outside, after_look, after_item, after_call, Program, State, Outcome, Normal, Branch, Returned, Ended, Lacks, InHost, Given, due, all_fit}
 use Rattle.ante_wrun.specs.Control.{IsGiven}
 
 -- ---- the questions so far
@@ -100,3 +100,7 @@ MayCall allowed program w left = (kind : FuncType) (number : ℕ) (args : List �
 -- at every number of steps below this one
 abbrev pub MayBelow : {W : Type 0} → (allowed : W → ℕ → List ℕ → ℕ → Type 0) → Program → W → (left : ℕ) → Type 0
 MayBelow allowed program w left = (less : ℕ) → less < left → MayCall allowed program w less
+
+-- the function of this number is one of the host's
+abbrev pub IsHosts : Program → ℕ → Type 0
+IsHosts program f = (kind : FuncType) × (number : ℕ) × (slice_get program.functions f ≡ Some (Given kind number))

@@ -5,7 +5,7 @@ ghost use Rattle.ante_wtree.specs.Expressions.{put, expression_of};
 ghost use Rattle.ante_wrun.specs.Effects.{low, top, popped};
 ghost use Rattle.ante_wrun.specs.Meaning.{Outside, Program, result_of, same_kind, same_kinds, has_type, element, on_stack, stack_of, grow, target, acts, call};
 ghost use Rattle.ante_wrun.specs.Machine.{state_of, whole, going, after};
-ghost use Rattle.ante_wrun.specs.Control.{instance_of, program_of, own_at, Leads};
+ghost use Rattle.ante_wrun.specs.Control.{instance_of, program_of, own_at, Leads, NotHostCall, GivenAt};
 
 use crate::data::low;
 use crate::ends::TrapKind;
@@ -132,7 +132,8 @@ fn enter<'a, H: Host>(
     locals: u32,
     body: &'a [Instr],
 ) -> Result<Next<'a>, AllocError>
-    ensures { IfOk result (λ next. (program : Program) (w : H) (left last : ℕ) (outside : Outside) →
+    ensures own { IfOk result NotHostCall }
+    ensures leads { IfOk result (λ next. (program : Program) (w : H) (left last : ℕ) (outside : Outside) →
         Leads H.meaning program
         (after H.meaning program thread.old (own_at H.meaning program thread.old.free kind.entry.now locals (expression_of body.entry.now) (state_of thread.old.state w left last outside)))
         next thread.new w left last outside) }
@@ -165,7 +166,8 @@ pub(crate) fn call_function<'a, H: Host>(
     alloc: Global,
     at: u32,
 ) -> Result<Next<'a>, AllocError>
-    ensures { IfOk result (λ next. (w : H) (left last : ℕ) (outside : Outside) →
+    ensures given { IfOk result (λ next. GivenAt (program_of functions.now) at next) }
+    ensures leads { IfOk result (λ next. (w : H) (left last : ℕ) (outside : Outside) →
         let program = program_of functions.now in
         Leads H.meaning program
         (after H.meaning program thread.old (call H.meaning program thread.old.free at (state_of thread.old.state w left last outside)))

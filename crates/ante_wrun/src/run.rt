@@ -6,7 +6,7 @@ ghost use Rattle.ante_wrun.specs.Effects.{popped};
 ghost use Rattle.ante_wrun.specs.Meaning.{Outside, Program, invoked, round, due, arguments, on_stack, call_host};
 ghost use Rattle.ante_wrun.specs.Machine.{state_of, going, after};
 ghost use Rattle.ante_wrun.specs.Control.{program_of};
-ghost use Rattle.ante_wrun.specs.Runs.{Begins, past, ByEvents, MayCall, MayBelow};
+ghost use Rattle.ante_wrun.specs.Runs.{Begins, past, ByEvents, MayCall, MayBelow, IsHosts};
 ghost use Rattle.ante_wrun.specs.Turns.{MayLook, look_of, Pays, HostLeads, TurnLeads, RunLeads};
 
 use crate::control::{Functions, Next, act, call_function};
@@ -201,7 +201,7 @@ pub(crate) fn invoke<'a, H: Host, P: Stop>(
 ) -> Result<Option<RunEnd<H::Refusal>>, AllocError>
     requires idle { (length thread.old.code.now ≡ 0) × (thread.old.frames ≡ []) }
     requires below { MayBelow H.allowed (program_of functions.now) host.old left.old }
-    requires here { MayCall H.allowed (program_of functions.now) host.old left.old }
+    requires here { IsHosts (program_of functions.now) function → MayCall H.allowed (program_of functions.now) host.old left.old }
     ensures leads { let program = program_of functions.now in
         ByEvents P.may stop.old stop.new (λ events. (outside : Outside) → Begins outside events →
         RunLeads H.stands (invoked H.meaning program thread.old.free function (state_of thread.old.state host.old left.old last.old outside))

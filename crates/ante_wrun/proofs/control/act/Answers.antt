@@ -94,7 +94,7 @@ returns-in-Call-clause-leads g c =
     subst (λ o. Leads g.H.Host.meaning P o next c.call_function.new.thread w c.args.left.now last outside)
     (sym (ap (λ x. whole g.H.Host.meaning P t (acts P (call g.H.Host.meaning P t.free) x (state_of t.state w c.args.left.now last outside))) (c.in-Call.ensures (expression_of t.code.now))))
     (h w c.args.left.now last outside))
-    c.call_function.ensures
+    c.call_function.ensures.leads
 
 pub returns-in-CallIndirect-clause-leads : goal.returns-in-CallIndirect-clause-leads
 returns-in-CallIndirect-clause-leads g c =

@@ -8,12 +8,12 @@ use Rattle.ante_wrun.specs.Effects.{popped}
 use Rattle.ante_wrun.specs.Meaning.{Own, Given, Missing, and_then, with_operands, call_host, on_stack, stack_of, arguments, all_fit, call}
 use Rattle.ante_wrun.specs.Machine.{state_of, rest_of, under, after}
 use Rattle.ante_wrun.specs.Control.{instance_of, program_of, Leads}
-use Rattle.ante_wrun.proofs.Calls.{found, if_ok, stops, calls}
+use Rattle.ante_wrun.proofs.Calls.{found, not_host, if_ok, stops, calls}
 use Rattle.ante_wrun.proofs.Regions.{many}
 use Rattle.ante_wrun.proofs.control.call_function.Goals as goal
 
-pub returns-then-not-holds : goal.returns-then-not-holds
-returns-then-not-holds g c = λ w left last outside.
+pub returns-then-not-holds-clause-leads : goal.returns-then-not-holds-clause-leads
+returns-then-not-holds-clause-leads g c = λ w left last outside.
     let program = program_of c.args.functions.now in
     let t = c.args.thread.now in
     let s = state_of t.state w left last outside in
@@ -24,8 +24,8 @@ returns-then-not-holds g c = λ w left last outside.
     ∙ ap (λ b. with_operands b (call_host g.H.Host.meaning kind c.in-Some-Host.number) s)
     (ap not (ap (λ ks. all_fit ks (arguments (length ks) t.state.values.stack)) (sym c.as_slice-in-Some-Host.ensures) ∙ sym c.holds.ensures ∙ c.if-not-holds.true)))
 
-pub returns-in-Some-Own : goal.returns-in-Some-Own
-returns-in-Some-Own g c =
+pub returns-in-Some-Own-clause-leads : goal.returns-in-Some-Own-clause-leads
+returns-in-Some-Own-clause-leads g c =
     let program = program_of c.args.functions.now in
     let t = c.args.thread.now in
     let f = found c.args.functions.now.all.items c.args.at (Some c.in-Some-Own.field-0) (c.in-Some-Own.ensures ∙ ap (λ xs. slice_get xs c.args.at) c.as_slice.ensures.value) ∙ ap (λ f. Some (instance_of f)) c.in-Some-Own.field-0-is in
@@ -34,10 +34,10 @@ returns-in-Some-Own g c =
     subst (λ o. Leads g.H.Host.meaning program (after g.H.Host.meaning program t o) next c.enter.new.thread w left last outside)
     (sym (calls g.H.Host.meaning program t.free c.args.at (state_of t.state w left last outside) (Some (Own c.in-Some-Own.kind.now c.in-Some-Own.locals (expression_of c.in-Some-Own.body.now))) f))
     (h program w left last outside))
-    c.enter.ensures
+    c.enter.ensures.leads
 
-pub returns-in_ok-push-in-Some-Host : goal.returns-in_ok-push-in-Some-Host
-returns-in_ok-push-in-Some-Host g c = λ w left last outside.
+pub returns-in_ok-push-in-Some-Host-clause-leads : goal.returns-in_ok-push-in-Some-Host-clause-leads
+returns-in_ok-push-in-Some-Host-clause-leads g c = λ w left last outside.
     let program = program_of c.args.functions.now in
     let t = c.args.thread.now in
     let s = state_of t.state w left last outside in
@@ -58,8 +58,8 @@ returns-in_ok-push-in-Some-Host g c = λ w left last outside.
       (c.args.at, f),
     )
 
-pub returns-in-Some-Missing : goal.returns-in-Some-Missing
-returns-in-Some-Missing g c = λ w left last outside.
+pub returns-in-Some-Missing-clause-leads : goal.returns-in-Some-Missing-clause-leads
+returns-in-Some-Missing-clause-leads g c = λ w left last outside.
     let program = program_of c.args.functions.now in
     let t = c.args.thread.now in
     let s = state_of t.state w left last outside in
@@ -67,11 +67,18 @@ returns-in-Some-Missing g c = λ w left last outside.
     stops g.H.Host.meaning program t.free t.state.values.below t.frames (rest_of g.H.Host.meaning program t) (call g.H.Host.meaning program t.free c.args.at s) (end.Trap trap.Unreachable) s
     (calls g.H.Host.meaning program t.free c.args.at s (Some Missing) f)
 
-pub returns-in-None : goal.returns-in-None
-returns-in-None g c = λ w left last outside.
+pub returns-in-None-clause-leads : goal.returns-in-None-clause-leads
+returns-in-None-clause-leads g c = λ w left last outside.
     let program = program_of c.args.functions.now in
     let t = c.args.thread.now in
     let s = state_of t.state w left last outside in
     let f = found c.args.functions.now.all.items c.args.at None (c.in-None.ensures ∙ ap (λ xs. slice_get xs c.args.at) c.as_slice.ensures.value) in
     stops g.H.Host.meaning program t.free t.state.values.below t.frames (rest_of g.H.Host.meaning program t) (call g.H.Host.meaning program t.free c.args.at s) (end.Trap trap.Unreachable) s
     (calls g.H.Host.meaning program t.free c.args.at s None f)
+
+pub returns-in-Some-Own-clause-given : goal.returns-in-Some-Own-clause-given
+returns-in-Some-Own-clause-given g c = if_ok c.enter.result _ _ (λ next h. not_host (program_of c.args.functions.now) c.args.at next h) c.enter.ensures.own
+
+pub returns-in_ok-push-in-Some-Host-clause-given : goal.returns-in_ok-push-in-Some-Host-clause-given
+returns-in_ok-push-in-Some-Host-clause-given g c =
+    found c.args.functions.now.all.items c.args.at (Some c.in-Some-Host.field-0) (c.in-Some-Host.ensures ∙ ap (λ xs. slice_get xs c.args.at) c.as_slice.ensures.value) ∙ ap (λ f. Some (instance_of f)) c.in-Some-Host.field-0-is

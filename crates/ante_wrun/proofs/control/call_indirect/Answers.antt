@@ -28,7 +28,7 @@ returns-in-Ok g c =
     (sym (ap (λ r. after g.H.Host.meaning P t (target r K s)) e
     ∙ ap (λ v. under g.H.Host.meaning P t.free v.below t.frames (and_then (K c.in-Ok.function (state_of (record t.state { values = v }) w left last outside)) (rest_of g.H.Host.meaning P t))) (sym c.pop.ensures.rest)))
     (h w left last outside))
-    c.call_function.ensures
+    c.call_function.ensures.leads
 
 pub returns-in-Err : goal.returns-in-Err
 returns-in-Err g c = λ w left last outside.

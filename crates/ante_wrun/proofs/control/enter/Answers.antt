@@ -13,16 +13,16 @@ use Rattle.ante_wrun.proofs.control.enter.Goals as goal
 abbrev later : FrameValues → ℕ → ℕ → FrameValues
 later v n zeros = record { below = v.below ++ (v.locals ++ reverse (drop n v.stack)); locals = arguments n v.stack ++ replicate zeros 0; stack = [] }
 
-pub returns-then-thread-eq0 : goal.returns-then-thread-eq0
-returns-then-thread-eq0 g c = λ program w left last outside.
+pub returns-then-thread-eq0-clause-leads : goal.returns-then-thread-eq0-clause-leads
+returns-then-thread-eq0-clause-leads g c = λ program w left last outside.
     let t = c.args.thread.now in
     let s = state_of t.state w left last outside in
     stops g.H.Host.meaning program t.free t.state.values.below t.frames (rest_of g.H.Host.meaning program t)
     (own_at g.H.Host.meaning program t.free c.args.kind.now c.args.locals (expression_of c.args.body.now) s) end.CallDepth s
     (ap (λ k. own_at g.H.Host.meaning program k c.args.kind.now c.args.locals (expression_of c.args.body.now) s) c.if-thread-eq0.true)
 
-pub returns-then-height-params : goal.returns-then-height-params
-returns-then-height-params g c = λ program w left last outside.
+pub returns-then-height-params-clause-leads : goal.returns-then-height-params-clause-leads
+returns-then-height-params-clause-leads g c = λ program w left last outside.
     let t = c.args.thread.now in
     let s = state_of t.state w left last outside in
     stops g.H.Host.meaning program t.free t.state.values.below t.frames (rest_of g.H.Host.meaning program t)
@@ -30,8 +30,8 @@ returns-then-height-params g c = λ program w left last outside.
     (too_few g.H.Host.meaning program t.free (t.free - 1) c.args.kind.now c.args.locals (expression_of c.args.body.now) s (omega (arith, c.if-thread-eq0.false))
     (omega (arith, c.if-height-params.true, c.height.ensures, c.len-params.ensures)))
 
-pub returns : goal.returns
-returns g c = λ program w left last outside.
+pub returns-clause-leads : goal.returns-clause-leads
+returns-clause-leads g c = λ program w left last outside.
     let t = c.args.thread.now in
     let v = t.state.values in
     enters g.H.Host.meaning program w left last outside t.free (t.free - 1) t.frames c.push.new.self t.state t.code c.args.body c.args.kind.now c.args.locals c.enter.new.self
