@@ -1,14 +1,14 @@
 -- Bodies that end, are branched out of, or begin again, on the machine's frames.
-use Rattle.std.proofs.Common.{◌≡◌, ℕ, suc, List, [], ◌∷◌, ◌++◌, length, arith, take, drop, reverse, Option, refl, sym, ap, subst, ◌∙◌}
+use Rattle.std.proofs.Common.{◌≡◌, ℕ, suc, List, [], ◌∷◌, ◌++◌, length, arith, take, drop, reverse, Option, refl, sym, ap, ◌∙◌}
 use denote.Bor.{Bor}
 use Rattle.ante_wmem.specs.HostCalls.{HostMeaning}
 use Rattle.ante_wtree.specs.declared.instructions.ValueKind.{ValueKind}
 use Rattle.ante_wtree.specs.declared.instructions.Instr.{Instr}
-use Rattle.ante_wtree.specs.Expressions.{Expression, expression_of}
+use Rattle.ante_wtree.specs.Expressions.{expression_of}
 use Rattle.ante_wrun.specs.declared.data.Data.{Data}
 use Rattle.ante_wrun.specs.declared.thread.Frame.{Frame}
 use Rattle.ante_wrun.specs.declared.thread.Frame.TheVariants as frame
-use Rattle.ante_wrun.specs.Meaning.{Outside, Program, State, Outcome, Normal, Branch, Returned, Ended, and_then, of_loop, turns, keep, unwound, arity, does, call}
+use Rattle.ante_wrun.specs.Meaning.{Outside, Program, State, Outcome, Normal, Branch, and_then, turns, keep, unwound, arity, does, call}
 use Rattle.ante_wrun.specs.Frames.{FrameValues}
 use Rattle.ante_wrun.specs.Machine.{state_of, under}
 use Rattle.ante_wrun.proofs.Falls.{HostFalls, does_lowers, call_lowers, turns_open}

@@ -1,12 +1,12 @@
 -- Calls, traps and growth on the machine's frames.
-use Rattle.std.proofs.Common.{◌≡◌, ℕ, zero, suc, ◌+◌, ◌-◌, ◌<◌, ◌≤◌, Bool, true, false, List, [], ◌∷◌, ◌++◌, length, take, drop, reverse, replicate, map, Option, None, Some, Result, Ok, Err, IfOk, refl, sym, ap, subst, ◌∙◌, arith}
+use Rattle.std.proofs.Common.{◌≡◌, ℕ, zero, suc, ◌<◌, ◌≤◌, Bool, true, false, List, [], ◌∷◌, ◌++◌, length, take, drop, reverse, replicate, map, Option, Some, Result, Ok, Err, IfOk, refl, sym, ap, ◌∙◌, arith}
 use Rattle.std.specs.Prelude.{slice_get, nat_lt, nat_le, if◌then◌else◌}
 use Rattle.std.specs.Option.{option_map}
-use Rattle.std.proofs.lemmas.Bool.{lt-ltb, ltb-true, leb-true, le-leb}
+use Rattle.std.proofs.lemmas.Bool.{lt-ltb, ltb-true, leb-true}
 use Rattle.std.proofs.lemmas.List.{reverse-reverse}
 use Rattle.std.proofs.Math.Seq.{take-append_seam, drop-append_seam}
 use denote.Bor.{Bor}
-use Rattle.ante_wmem.specs.Linear.{may_grow, page_count}
+use Rattle.ante_wmem.specs.Linear.{may_grow}
 use Rattle.ante_wmem.specs.HostCalls.{HostMeaning}
 use Rattle.ante_wtree.specs.declared.instructions.ValueKind.{ValueKind}
 use Rattle.ante_wtree.specs.declared.instructions.Instr.{Instr}
@@ -23,9 +23,9 @@ use Rattle.ante_wrun.specs.declared.control.Next.{Next as After}
 use Rattle.ante_wrun.specs.declared.control.Next.TheVariants as next
 use Rattle.ante_wrun.specs.declared.ends.TrapKind.{TrapKind}
 use Rattle.ante_wrun.specs.Effects.{Effect, Next, Traps, popped}
-use Rattle.ante_wrun.specs.Meaning.{Outside, Program, FunctionInstance, Own, Given, State, Outcome, Ended, and_then, of_function, with_operands, chosen, of_block, call_own, call_host, on_stack, stack_of, result_of, arguments, pay_pages, grow_if, grow, grown_by, does, call}
-use Rattle.ante_wrun.specs.Frames.{FrameValues, Open, InCall, unwind}
-use Rattle.ante_wrun.specs.Machine.{opens, state_of, under, Does}
+use Rattle.ante_wrun.specs.Meaning.{Outside, Program, FunctionInstance, State, Outcome, Ended, and_then, of_function, with_operands, chosen, of_block, call_own, on_stack, stack_of, result_of, arguments, pay_pages, grow_if, grow, grown_by, does, call}
+use Rattle.ante_wrun.specs.Frames.{FrameValues, InCall, unwind}
+use Rattle.ante_wrun.specs.Machine.{opens, under, Does}
 use Rattle.ante_wrun.specs.Control.{instance_of, own_at, Stops, NotHostCall, GivenAt}
 use Rattle.ante_wrun.proofs.Bodies.{here, goes}
 

@@ -1,5 +1,5 @@
 -- No code raises the steps left, and a branch has lowered them: so a loop's turns are never too few.
-use Rattle.std.proofs.Common.{◌≡◌, ℕ, zero, suc, ◌-◌, ◌<◌, ◌≤◌, Bool, true, false, List, length, drop, Option, None, Some, Result, Ok, Err, refl, arith}
+use Rattle.std.proofs.Common.{◌≡◌, ℕ, zero, suc, ◌<◌, ◌≤◌, Bool, true, false, List, length, drop, Option, None, Some, Result, Ok, Err, refl, arith}
 use Rattle.std.specs.Prelude.{◌==◌, not, nat_lt, nat_le, slice_get}
 use Rattle.ante_wmem.specs.Linear.{LinearMemory, may_grow}
 use Rattle.ante_wmem.specs.HostCalls.{Reply, value, nothing, exit, refused, step_limit, HostMeaning}
@@ -8,7 +8,7 @@ use Rattle.ante_wtree.specs.declared.modules.FuncType.{FuncType}
 use Rattle.ante_wtree.specs.Expressions.{Expression, Over, Plain, Block, Loop, If, Br, BrIf, BrTable, Return, Call, CallIndirect, MemoryGrow}
 use Rattle.ante_wrun.specs.declared.ends.TrapKind.{TrapKind}
 use Rattle.ante_wrun.specs.Effects.{Effect, Next, Traps, effect, top, popped, low}
-use Rattle.ante_wrun.specs.Meaning.{Outside, FunctionInstance, Own, Given, Missing, Program, State, Outcome, Normal, Branch, Returned, Ended, Lacks, InHost, stack_of, on_stack, with_values, keep, result_of, returned, grown_by, entered, arguments, all_fit, after_look, after_item, due, supplied, pay, seen, step, starts, and_then, of_block, of_loop, of_call, of_effect, turns, chosen, jump_unless, target, pay_pages, grow_if, grow, element, acts, does, with_operands, of_reply, host_supplied, call_host, of_function, no_frame, call_own, in_frame, call}
+use Rattle.ante_wrun.specs.Meaning.{FunctionInstance, Own, Given, Missing, Program, State, Outcome, Normal, Branch, Returned, Ended, Lacks, InHost, stack_of, on_stack, with_values, keep, result_of, grown_by, entered, arguments, all_fit, after_look, after_item, due, supplied, pay, seen, step, starts, and_then, of_block, of_loop, of_call, of_effect, turns, chosen, jump_unless, target, pay_pages, grow_if, grow, element, acts, does, with_operands, of_reply, host_supplied, call_host, of_function, no_frame, call_own, in_frame, call}
 
 module _ {W R : Type 0} where
   abbrev pub Lowers : ℕ → Outcome W R → Type 0

@@ -1,5 +1,5 @@
 -- The parts of a turn of the loop: the look, the step, and what the instruction leads to.
-use Rattle.std.proofs.Common.{◌≡◌, ℕ, zero, suc, ◌<◌, ◌≤◌, Bool, true, false, List, [], ◌∷◌, ◌++◌, length, take, drop, Option, None, Some, refl, sym, ap, subst, ◌∙◌, arith}
+use Rattle.std.proofs.Common.{◌≡◌, ℕ, suc, Bool, true, false, List, [], ◌∷◌, ◌++◌, length, take, drop, Option, None, Some, refl, sym, ap, subst, ◌∙◌}
 use denote.Bor.{Bor}
 use Rattle.ante_base.specs.Stops.{Looks}
 use Rattle.ante_wmem.specs.Linear.{LinearMemory}
@@ -16,7 +16,7 @@ use Rattle.ante_wrun.specs.declared.ends.RunEnd.TheVariants as end
 use Rattle.ante_wrun.specs.declared.thread.Frame.{Frame}
 use Rattle.ante_wrun.specs.declared.thread.Frame.TheVariants as frame
 use Rattle.ante_wrun.specs.declared.thread.Thread.{Thread}
-use Rattle.ante_wrun.specs.Meaning.{Outside, after_look, after_item, after_call, Program, State, Outcome, Normal, Branch, Returned, Ended, Lacks, InHost, and_then, settled, invoked, stack_of, arguments, supplied, pay, seen, step, starts, due, of_reply, host_supplied, call_host, acts, does, call}
+use Rattle.ante_wrun.specs.Meaning.{Outside, after_look, after_item, Program, State, Outcome, Normal, Branch, Returned, Ended, Lacks, InHost, and_then, settled, invoked, stack_of, arguments, supplied, pay, seen, step, starts, due, of_reply, host_supplied, call_host, acts, does, call}
 use Rattle.ante_wrun.specs.Machine.{state_of, under, whole, going, after, Finds}
 use Rattle.ante_wrun.specs.Control.{Stops}
 use Rattle.ante_wrun.specs.Runs.{Event, Looked, Supplied, CallSupplied, asked, Begins, past, looks_of, ByEvents, Ends, Lacking, Wanting}

@@ -1,7 +1,7 @@
 -- What the plain instructions do: sections 4.4.1 to 4.4.4 of WebAssembly Core 1.0. An instruction that finds too few
 -- operands reads 0 for each that is missing, and one that names no local or global reads 0 and writes nothing; no
 -- instruction of a valid module does.
-use Rattle.std.specs.Prelude.{ℕ, ◌+◌, ◌%◌, ◌^◌, Bool, true, false, ◌==◌, if◌then◌else◌, List, [], ◌∷◌, slice_index, slice_set, Result, Ok, Err}
+use Rattle.std.specs.Prelude.{ℕ, ◌+◌, ◌%◌, ◌^◌, ◌==◌, if◌then◌else◌, List, [], ◌∷◌, slice_index, slice_set, Result, Ok, Err}
 use Rattle.ante_wnum.specs.Integers.{signed, unsigned}
 use Rattle.ante_wnum.specs.Instructions.{unary_of, binary_of, compare_of}
 use Rattle.ante_wnum.specs.declared.NumTrap.{NumTrap}

@@ -1,9 +1,9 @@
 -- What the machine's parts stand for.
-use Rattle.std.specs.Prelude.{◌≡◌, ℕ, List, [], ◌∷◌, take, drop, reverse, Option, None, Some, Result, Ok, Err, IfOk}
+use Rattle.std.specs.Prelude.{◌≡◌, ℕ, List, [], ◌∷◌, take, drop, reverse, Option, None, Some}
 use denote.Bor.{Bor}
 use Rattle.ante_wmem.specs.HostCalls.{HostMeaning}
 use Rattle.ante_wtree.specs.declared.instructions.Instr.{Instr}
-use Rattle.ante_wtree.specs.Expressions.{Expression, expression_of, put}
+use Rattle.ante_wtree.specs.Expressions.{expression_of, put}
 use Rattle.ante_wrun.specs.declared.ends.TrapKind.{TrapKind}
 use Rattle.ante_wrun.specs.declared.data.Data.{Data}
 use Rattle.ante_wrun.specs.declared.thread.Frame.{Frame}

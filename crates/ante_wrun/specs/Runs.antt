@@ -1,5 +1,5 @@
 -- How runs end, and what is asked of the outside while they last.
-use Rattle.std.specs.Prelude.{◌≡◌, ℕ, suc, ◌<◌, ◌≤◌, true, false, List, [], ◌∷◌, length, slice_get, Option, None, Some, Result, Ok, Err}
+use Rattle.std.specs.Prelude.{◌≡◌, ℕ, ◌<◌, ◌≤◌, true, false, List, [], ◌∷◌, slice_get, Option, Some}
 use Rattle.ante_base.specs.Stops.{Looks}
 use Rattle.ante_wmem.specs.Linear.{LinearMemory}
 use Rattle.ante_wmem.specs.declared.host.HostAnswer.{HostAnswer}
@@ -7,7 +7,7 @@ use Rattle.ante_wmem.specs.declared.host.HostAnswer.TheVariants as answer
 use Rattle.ante_wtree.specs.declared.modules.FuncType.{FuncType}
 use Rattle.ante_wrun.specs.declared.ends.RunEnd.{RunEnd}
 use Rattle.ante_wrun.specs.declared.ends.RunEnd.TheVariants as end
-use Rattle.ante_wrun.specs.Meaning.{Outside, after_look, after_item, after_call, Program, State, Outcome, Normal, Branch, Returned, Ended, Lacks, InHost, Given, due, all_fit}
+use Rattle.ante_wrun.specs.Meaning.{Outside, after_look, after_item, after_call, Program, Outcome, Normal, Branch, Returned, Ended, Lacks, InHost, Given, all_fit}
 use Rattle.ante_wrun.specs.Control.{IsGiven}
 
 -- ---- the questions so far

@@ -10,3 +10,6 @@ mod thread;
 mod values;
 
 pub use ends::{RunEnd, TrapKind};
+
+#[cfg(test)]
+mod tests;

@@ -1,16 +1,15 @@
-use Rattle.std.proofs.Common.{◌≡◌, ℕ, ◌∷◌, Bool, true, false, Some, None, Ok, Err, length, refl, sym, ap, subst, ◌∙◌, arith}
+use Rattle.std.proofs.Common.{◌≡◌, ◌∷◌, false, length, refl, sym, ap, subst, ◌∙◌, arith}
 use Rattle.std.specs.Prelude.{◌==◌, slice_index_or}
 use Rattle.std.proofs.lemmas.Bool.{eqb-true}
-use Rattle.ante_wtree.specs.Expressions.{put, put_shape, expression_of}
+use Rattle.ante_wtree.specs.Expressions.{expression_of}
 use Rattle.ante_wrun.specs.declared.ends.RunEnd.TheVariants as end
-use Rattle.ante_wrun.specs.declared.ends.TrapKind.TheVariants as trap
 use Rattle.ante_wrun.specs.declared.thread.Frame.TheVariants as frame
 use Rattle.ante_wrun.specs.Effects.{effect, low, top, popped}
-use Rattle.ante_wrun.specs.Meaning.{Branch, and_then, of_effect, jump_unless, target, element, on_stack, acts, does, call}
-use Rattle.ante_wrun.specs.Machine.{state_of, values_of, rest_of, under, whole, after}
+use Rattle.ante_wrun.specs.Meaning.{Branch, and_then, of_effect, jump_unless, on_stack, acts, does, call}
+use Rattle.ante_wrun.specs.Machine.{state_of, values_of, rest_of, under, whole}
 use Rattle.ante_wrun.specs.Control.{program_of, Leads}
 use Rattle.ante_wrun.proofs.Bodies.{again}
-use Rattle.ante_wrun.proofs.Calls.{if_ok, stops, ended, traps, conditional}
+use Rattle.ante_wrun.proofs.Calls.{if_ok, ended, traps, conditional}
 use Rattle.ante_wrun.proofs.control.act.Goals as goal
 
 pub returns-in-Some-clause-leads : goal.returns-in-Some-clause-leads

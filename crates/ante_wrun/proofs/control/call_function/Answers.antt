@@ -1,11 +1,10 @@
-use Rattle.std.proofs.Common.{◌≡◌, ℕ, ◌<◌, ◌≤◌, Some, None, true, false, length, refl, sym, ap, subst, ◌∙◌, arith}
+use Rattle.std.proofs.Common.{◌≡◌, Some, None, true, length, sym, ap, subst, ◌∙◌, arith}
 use Rattle.std.specs.Prelude.{slice_get, not}
-use Rattle.std.proofs.lemmas.Bool.{lt-ltb}
 use Rattle.ante_wtree.specs.Expressions.{expression_of}
 use Rattle.ante_wrun.specs.declared.ends.RunEnd.TheVariants as end
 use Rattle.ante_wrun.specs.declared.ends.TrapKind.TheVariants as trap
 use Rattle.ante_wrun.specs.Effects.{popped}
-use Rattle.ante_wrun.specs.Meaning.{Own, Given, Missing, and_then, with_operands, call_host, on_stack, stack_of, arguments, all_fit, call}
+use Rattle.ante_wrun.specs.Meaning.{Own, Given, Missing, and_then, with_operands, call_host, on_stack, arguments, all_fit, call}
 use Rattle.ante_wrun.specs.Machine.{state_of, rest_of, under, after}
 use Rattle.ante_wrun.specs.Control.{instance_of, program_of, Leads}
 use Rattle.ante_wrun.proofs.Calls.{found, not_host, if_ok, stops, calls}

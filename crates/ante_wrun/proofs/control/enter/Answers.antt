@@ -1,9 +1,9 @@
-use Rattle.std.proofs.Common.{◌≡◌, ℕ, suc, ◌-◌, ◌<◌, [], ◌∷◌, ◌++◌, length, drop, reverse, replicate, refl, sym, ap, ◌∙◌, arith}
+use Rattle.std.proofs.Common.{ℕ, ◌-◌, [], ◌∷◌, ◌++◌, length, drop, reverse, replicate, ap, ◌∙◌, arith}
 use Rattle.ante_wtree.specs.Expressions.{expression_of}
 use Rattle.ante_wrun.specs.declared.ends.RunEnd.TheVariants as end
 use Rattle.ante_wrun.specs.declared.ends.TrapKind.TheVariants as trap
 use Rattle.ante_wrun.specs.declared.thread.Frame.TheVariants as frame
-use Rattle.ante_wrun.specs.Meaning.{does, call, result_of, arguments}
+use Rattle.ante_wrun.specs.Meaning.{result_of, arguments}
 use Rattle.ante_wrun.specs.Frames.{FrameValues}
 use Rattle.ante_wrun.specs.Machine.{state_of, rest_of}
 use Rattle.ante_wrun.specs.Control.{own_at}

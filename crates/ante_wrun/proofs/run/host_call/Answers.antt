@@ -1,4 +1,4 @@
-use Rattle.std.proofs.Common.{◌≡◌, ℕ, ◌≤◌, List, length, refl, sym, ap, subst, ◌∙◌, arith}
+use Rattle.std.proofs.Common.{◌≡◌, length, refl, sym, ap, subst, ◌∙◌}
 use Rattle.ante_wmem.specs.declared.host.HostAnswer.TheVariants as answer
 use Rattle.ante_wrun.specs.declared.ends.RunEnd.TheVariants as end
 use Rattle.ante_wrun.specs.Effects.{popped}

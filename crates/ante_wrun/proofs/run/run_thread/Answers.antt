@@ -1,14 +1,10 @@
-use Rattle.std.proofs.Common.{◌≡◌, ℕ, suc, ◌<◌, ◌≤◌, [], ◌∷◌, Ok, length, refl, sym, ap, subst, ◌∙◌, arith}
-use Rattle.ante_wrun.specs.declared.ends.RunEnd.TheVariants as end
-use Rattle.ante_wrun.specs.declared.run.Progress.{Progress}
-use Rattle.ante_wrun.specs.declared.run.Progress.TheVariants as progress
-use Rattle.ante_wrun.specs.Effects.{popped}
-use Rattle.ante_wrun.specs.Meaning.{Outside, Outcome, Normal, after_call, call, arguments}
-use Rattle.ante_wrun.specs.Machine.{state_of, whole, going, after}
-use Rattle.ante_wrun.specs.Control.{program_of, Leads}
-use Rattle.ante_wrun.specs.Runs.{CallSupplied, Begins, past, ByEvents, Wanting, Ends, Lacking}
-use Rattle.ante_wrun.specs.Turns.{TurnLeads, RunLeads}
-use Rattle.ante_wrun.proofs.Turning.{more_events, invoke_by, outset, called_at, stops_ends, some_outside}
+use Rattle.std.proofs.Common.{◌≡◌, Ok, ap, subst}
+use Rattle.ante_wrun.specs.Meaning.{Outside, Normal}
+use Rattle.ante_wrun.specs.Machine.{state_of, going}
+use Rattle.ante_wrun.specs.Control.{program_of}
+use Rattle.ante_wrun.specs.Runs.{Begins, past, ByEvents, Wanting, Ends, Lacking}
+use Rattle.ante_wrun.specs.Turns.{TurnLeads}
+use Rattle.ante_wrun.proofs.Turning.{more_events}
 use Rattle.ante_wrun.proofs.run.run_thread.Goals as goal
 
 pub turns-preserved : goal.turns-preserved

@@ -1,4 +1,4 @@
-use Rattle.std.proofs.Common.{◌≡◌, ℕ}
+use Rattle.std.proofs.Common.{◌≡◌}
 use Rattle.ante_wrun.specs.Meaning.{Outside}
 use Rattle.ante_wrun.specs.Machine.{state_of, going}
 use Rattle.ante_wrun.specs.Control.{program_of}

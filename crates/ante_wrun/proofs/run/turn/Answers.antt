@@ -1,10 +1,7 @@
-use Rattle.std.proofs.Common.{◌≡◌, ℕ, suc, ◌<◌, ◌≤◌, [], ◌∷◌, Ok, length, refl, sym, ap, subst, ◌∙◌, arith}
-use Rattle.ante_wtree.specs.Expressions.{put, expression_of}
+use Rattle.std.proofs.Common.{◌≡◌, ◌<◌, [], ◌∷◌, length, refl, sym, subst, ◌∙◌, arith}
 use Rattle.ante_wrun.specs.declared.ends.RunEnd.TheVariants as end
-use Rattle.ante_wrun.specs.declared.ends.TrapKind.{TrapKind}
-use Rattle.ante_wrun.specs.declared.control.Next.{Next}
 use Rattle.ante_wrun.specs.Effects.{popped}
-use Rattle.ante_wrun.specs.Meaning.{Outside, Outcome, after_call, acts, call, arguments}
+use Rattle.ante_wrun.specs.Meaning.{after_call, arguments}
 use Rattle.ante_wrun.specs.Machine.{state_of, whole, going}
 use Rattle.ante_wrun.specs.Control.{program_of, Leads}
 use Rattle.ante_wrun.specs.Runs.{CallSupplied, Wanting, Ends, Lacking}

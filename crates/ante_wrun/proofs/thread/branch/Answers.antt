@@ -1,7 +1,4 @@
-use Rattle.std.proofs.Common.{◌≡◌, ℕ, ◌∷◌, [], List, Option, drop, refl, sym, ap, ◌∙◌}
-use Rattle.ante_wtree.specs.Expressions.{put, expression_of}
-use Rattle.ante_wrun.specs.Meaning.{Outside, Program, Normal, Branch, Returned, does, call}
-use Rattle.ante_wrun.specs.Machine.{state_of, under, whole, going, Finds}
+use Rattle.std.proofs.Common.{◌∷◌, drop, ap, ◌∙◌}
 use Rattle.ante_wrun.proofs.Bodies.{land_Loop}
 use Rattle.ante_wrun.proofs.thread.branch.Goals as goal
 

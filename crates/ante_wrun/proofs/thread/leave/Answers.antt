@@ -1,8 +1,6 @@
-use Rattle.std.proofs.Common.{◌≡◌, ℕ, ◌∷◌, [], List, Option, drop, refl, sym, ap, ◌∙◌}
-use Rattle.ante_wtree.specs.Expressions.{put, expression_of}
-use Rattle.ante_wrun.specs.Meaning.{Outside, Program, Normal, Branch, Returned, does, call}
-use Rattle.ante_wrun.specs.Machine.{state_of, under, whole, going, Finds}
-use Rattle.ante_wrun.proofs.Bodies.{land_Loop}
+use Rattle.std.proofs.Common.{◌∷◌, sym, ap, ◌∙◌}
+use Rattle.ante_wrun.specs.Meaning.{Normal, Returned}
+use Rattle.ante_wrun.specs.Machine.{state_of, under}
 use Rattle.ante_wrun.proofs.thread.leave.Goals as goal
 
 pub returns-in-Call : goal.returns-in-Call

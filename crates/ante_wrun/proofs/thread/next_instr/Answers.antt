@@ -1,7 +1,7 @@
-use Rattle.std.proofs.Common.{◌≡◌, ℕ, ◌∷◌, [], List, Option, drop, refl, sym, ap, ◌∙◌}
-use Rattle.ante_wtree.specs.Expressions.{put, expression_of}
-use Rattle.ante_wrun.specs.Meaning.{Outside, Program, Normal, Branch, Returned, does, call}
-use Rattle.ante_wrun.specs.Machine.{state_of, under, whole, going, Finds}
+use Rattle.std.proofs.Common.{ap, ◌∙◌}
+use Rattle.ante_wtree.specs.Expressions.{expression_of}
+use Rattle.ante_wrun.specs.Meaning.{Normal, does, call}
+use Rattle.ante_wrun.specs.Machine.{state_of, under}
 use Rattle.ante_wrun.proofs.Bodies.{no_items}
 use Rattle.ante_wrun.proofs.thread.next_instr.Goals as goal
 

@@ -1,4 +1,4 @@
-use Rattle.std.proofs.Common.{◌≡◌, ℕ, ◌+◌, ◌-◌, ◌<◌, ◌≤◌, ◌⊎◌, List, [], ◌∷◌, ◌++◌, length, take, drop, reverse, replicate, Option, None, Some, inl, inr, refl, sym, ap, subst, ◌∙◌, arith, append-nil, take_all, true, false}
+use Rattle.std.proofs.Common.{◌≡◌, ℕ, ◌+◌, ◌-◌, ◌≤◌, List, ◌++◌, length, take, replicate, ap, ◌∙◌, arith, take_all}
 use Rattle.ante_wrun.proofs.Regions.{view, entered_view}
 use Rattle.ante_wrun.proofs.values.ValueStack.enter.Goals as goal
 

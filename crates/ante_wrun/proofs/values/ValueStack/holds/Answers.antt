@@ -1,6 +1,4 @@
-use Rattle.std.proofs.Common.{◌≡◌, ℕ, ◌+◌, ◌-◌, ◌<◌, ◌≤◌, List, [], ◌∷◌, length, take, drop, refl, sym, ap, ◌∙◌, arith}
-use Rattle.ante_wrun.specs.Frames.{FrameValues}
-use Rattle.ante_wrun.specs.Effects.{popped}
+use Rattle.std.proofs.Common.{sym, arith}
 use Rattle.ante_wrun.proofs.Regions.{too_few}
 use Rattle.ante_wrun.proofs.values.ValueStack.holds.Goals as goal
 

@@ -1,5 +1,5 @@
-use Rattle.std.proofs.Common.{◌≡◌, ℕ, ◌+◌, ◌-◌, ◌<◌, ◌≤◌, List, [], ◌∷◌, ◌++◌, length, take, drop, reverse, replicate, Option, None, Some, refl, sym, ap, subst, ◌∙◌, arith}
-use Rattle.ante_wrun.proofs.Regions.{view, keep_view}
+use Rattle.std.proofs.Common.{arith}
+use Rattle.ante_wrun.proofs.Regions.{keep_view}
 use Rattle.ante_wrun.proofs.values.ValueStack.keep.Goals as goal
 
 pub returns-then-now-height : goal.returns-then-now-height

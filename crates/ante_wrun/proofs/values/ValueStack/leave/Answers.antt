@@ -1,5 +1,5 @@
-use Rattle.std.proofs.Common.{◌≡◌, ℕ, ◌+◌, ◌-◌, ◌<◌, ◌≤◌, ◌⊎◌, List, [], ◌∷◌, ◌++◌, length, take, drop, reverse, replicate, Option, None, Some, inl, inr, refl, sym, ap, subst, ◌∙◌, arith, append-nil, take_all, true, false}
-use Rattle.ante_wrun.proofs.Regions.{view, left_view, no_results}
+use Rattle.std.proofs.Common.{◌+◌, [], take, inl, inr, sym, ap, ◌∙◌, arith, append-nil}
+use Rattle.ante_wrun.proofs.Regions.{left_view, no_results}
 use Rattle.ante_wrun.proofs.values.ValueStack.leave.Goals as goal
 use Rattle.ante_wrun.proofs.values.ValueStack.leave.Goals.{else-is_some-via-then-is_some+else-height-gt0, else-is_some-via-else-is_some}
 

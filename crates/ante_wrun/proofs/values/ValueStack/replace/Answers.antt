@@ -1,4 +1,4 @@
-use Rattle.std.proofs.Common.{◌≡◌, ℕ, ◌+◌, ◌-◌, ◌<◌, ◌≤◌, List, [], ◌∷◌, ◌++◌, length, take, drop, reverse, replicate, slice_set, Option, None, Some, refl, sym, ap, subst, ◌∙◌, arith}
+use Rattle.std.proofs.Common.{◌-◌, length, slice_set, ap, ◌∙◌}
 use Rattle.ante_wrun.proofs.Regions.{view, last_view}
 use Rattle.ante_wrun.proofs.values.ValueStack.replace.Goals as goal
 

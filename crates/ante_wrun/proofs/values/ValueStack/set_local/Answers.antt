@@ -1,5 +1,4 @@
-use Rattle.std.proofs.Common.{◌≡◌, ℕ, ◌+◌, ◌-◌, ◌<◌, ◌≤◌, List, [], ◌∷◌, ◌++◌, length, take, drop, reverse, replicate, Option, None, Some, refl, sym, ap, subst, ◌∙◌, arith}
-use Rattle.ante_wrun.proofs.Regions.{view, local_view}
+use Rattle.ante_wrun.proofs.Regions.{local_view}
 use Rattle.ante_wrun.proofs.values.ValueStack.set_local.Goals as goal
 
 pub returns-then-at-self : goal.returns-then-at-self

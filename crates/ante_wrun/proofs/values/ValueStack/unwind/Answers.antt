@@ -1,9 +1,8 @@
-use Rattle.std.proofs.Common.{◌≡◌, ℕ, ◌+◌, ◌-◌, ◌<◌, ◌≤◌, ◌⊎◌, List, [], ◌∷◌, ◌++◌, length, take, drop, reverse, replicate, Option, None, Some, inl, inr, refl, sym, ap, subst, ◌∙◌, arith, append-nil, take_all, true, false}
+use Rattle.std.proofs.Common.{◌≡◌, Option, None, Some, arith, false}
 use Rattle.ante_wrun.proofs.Regions.{view, unwound_view}
 use Rattle.ante_wrun.proofs.values.ValueStack.unwind.Goals as goal
 use Rattle.ante_wtree.specs.declared.instructions.ValueKind.{ValueKind}
 use Rattle.std.specs.Option.{is_none}
-use Rattle.ante_wrun.specs.Frames.{FrameValues}
 use Rattle.ante_wrun.specs.Meaning.{unwound}
 
 some_kind : (kind : Option ValueKind) (P : Option ValueKind → Type 0) → is_none kind ≡ false → ((k : ValueKind) → P (Some k)) → P kind
