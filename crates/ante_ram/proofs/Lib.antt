@@ -1,2 +1,2 @@
-mod Sums
+pub mod Sums
 mod Walks

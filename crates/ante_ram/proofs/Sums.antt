@@ -1,13 +1,15 @@
 -- The sum of all usage after a change of one account's share, and the rule that it keeps.
-use Rattle.std.proofs.Common.{◌≡◌, ℕ, ◌+◌, ◌-◌, ◌≤◌, ◌^◌, ℤ, true, false, cond, not, T, List, [], ◌∷◌, length, slice_index_or, Result, Ok, Err, OnOk, OnErr, Some, None, refl, sym, ap, subst, ◌∙◌, arith, Ordering, Less, Equal, Greater, is_lt, is_eq}
-use Rattle.std.specs.Ordering.{eq_by_cmp, nat_cmp, ordering_reverse}
+use Rattle.std.proofs.Common.{◌≡◌, ℕ, ◌+◌, ◌-◌, ◌≤◌, ◌^◌, ℤ, true, false, cond, not, T, List, [], ◌∷◌, length, slice_index_or, Result, Ok, Err, OnOk, OnErr, Option, Some, None, refl, sym, ap, subst, ◌∙◌, arith, Ordering, Less, Equal, Greater, is_eq}
+use Rattle.std.specs.Ordering.{eq_by_cmp, nat_cmp}
 use Rattle.std.specs.Cmp.{IsTotalOrder}
 use Rattle.std.specs.List.{AllByRecursion}
-use Rattle.std.specs.FinMap.Entries.{by_order, find, is_sorted, below_all}
+use Rattle.std.specs.FinMap.Entries.{by_order, find, is_sorted}
 use Rattle.std.proofs.lemmas.Bool.Decides.{nat_tests}
 use Rattle.std.proofs.lemmas.Cmp.{tied_itself, nat_cmp_total}
 use Rattle.ante_undo.specs.Entries.{with_entry, without_key, changed}
-use Rattle.ante_undo.proofs.Entries.{first, second, less, find_changed, sorted_changed}
+use Rattle.ante_undo.proofs.Entries.{find_changed, sorted_changed}
+use Rattle.ante_sums.specs.Weights.{weight_at}
+use Rattle.ante_sums.proofs.Changed.{weight_within, weight_changed}
 use Rattle.std.proofs.lemmas.Slice.Zip.{firsts-zip}
 use Rattle.ante_undo.specs.Stack.{Stack, with_top, under_top}
 use Rattle.ante_sessions.specs.Zipped.{zip_stacks, Alike}
@@ -19,15 +21,14 @@ use Rattle.ante_ram.specs.declared.parts.Rest.{Rest}
 use Rattle.ante_ram.specs.Usage.{used_of, usage_sum, is_free, entry_of, with_share}
 use Rattle.ante_ram.specs.Total.{rest_of, IsSummed}
 
+-- what an account uses is what its entry weighs
+used_is : (k : Name) (share : Option Share) → used_of share ≡ weight_at (λ e. e.1.used) k share
+used_is k None = refl
+used_is k (Some share) = refl
+
 -- what one account uses is a part of the sum
 pub used_within : (cmp : Name → Name → Ordering) (k : Name) (es : List (Name × Share)) → used_of (find cmp k es) ≤ usage_sum es
-used_within cmp k [] = omega arith
-used_within cmp k (e ∷ es) =
-    let rest = used_within cmp k es in
-    elim (eq_by_cmp cmp k e.0) as (λ b. used_of (cond b (Some e.1) (find cmp k es)) ≤ e.1.used + usage_sum es) [
-      | true ↦ omega arith
-      | false ↦ omega arith
-    ]
+used_within cmp k es = omega (arith, used_is k (find cmp k es), weight_within cmp (λ e. e.1.used) (λ k x share tied. refl) k es)
 
 -- the entry of an account is counted, where there is one
 module _ (cmp : Name → Name → Ordering) where
@@ -56,56 +57,24 @@ module _ (cmp : Name → Name → Ordering) where
       ] refl
 
   module _ (o : IsTotalOrder cmp) where
-    -- no key after one that is not below k ties with k
-    absent : (k x : Name) (es : List (Name × Share)) (r : Ordering) → cmp k x ≡ r → T (not (is_lt (cmp x k))) → T (below_all cmp x es) → find cmp k es ≡ None
-    absent k x [] r p up h = refl
-    absent k x (e ∷ es) Less p up h =
-        ap (λ r. cond (is_eq r) (Some e.1) (find cmp k es)) (o.trans k x e.0 p (less _ (first _ _ h))) ∙ absent k x es Less p up (second _ _ h)
-    absent k x (e ∷ es) Equal p up h =
-        ap (λ r. cond (is_eq r) (Some e.1) (find cmp k es)) (o.congr k x e.0 p ∙ less _ (first _ _ h)) ∙ absent k x es Equal p up (second _ _ h)
-    absent k x (e ∷ es) Greater p up h = absurd (subst (λ r. T (not (is_lt r))) (o.antisymm x k ∙ ap ordering_reverse p) up)
-
-    tied_not_above : (k x : Name) → cmp k x ≡ Equal → T (not (is_lt (cmp x k)))
-    tied_not_above k x p = subst (λ r. T (not (is_lt r))) (sym (o.antisymm x k ∙ ap ordering_reverse p)) tt
-
-    less_not_above : (k x : Name) → cmp k x ≡ Less → T (not (is_lt (cmp x k)))
-    less_not_above k x p = subst (λ r. T (not (is_lt r))) (sym (o.antisymm x k ∙ ap ordering_reverse p)) tt
-
-    sum_with : (k : Name) (v : Share) (es : List (Name × Share)) → T (is_sorted cmp es) → usage_sum (with_entry cmp k v es) + used_of (find cmp k es) ≡ usage_sum es + v.used
-    sum_with k v [] h = omega arith
-    sum_with k v (e ∷ es) h =
-        elim (cmp k e.0) as (λ r. cmp k e.0 ≡ r → usage_sum (by_order r ((k, v) ∷ e ∷ es) ((k, v) ∷ es) (e ∷ with_entry cmp k v es)) + used_of (cond (is_eq r) (Some e.1) (find cmp k es)) ≡ e.1.used + usage_sum es + v.used) [
-          | Less ↦ λ p. let none = absent k e.0 es Less p (less_not_above k e.0 p) (first _ _ h) in omega (arith, ap used_of none)
-          | Equal ↦ λ p. omega arith
-          | Greater ↦ λ p. let rest = sum_with k v es (second _ _ h) in omega arith
-        ] refl
-
-    sum_without : (k : Name) (es : List (Name × Share)) → T (is_sorted cmp es) → usage_sum (without_key cmp k es) + used_of (find cmp k es) ≡ usage_sum es
-    sum_without k [] h = refl
-    sum_without k (e ∷ es) h =
-        let rest = sum_without k es (second _ _ h) in
-        elim (cmp k e.0) as (λ r. cmp k e.0 ≡ r → usage_sum (cond (not (is_eq r)) (e ∷ without_key cmp k es) (without_key cmp k es)) + used_of (cond (is_eq r) (Some e.1) (find cmp k es)) ≡ e.1.used + usage_sum es) [
-          | Less ↦ λ p. omega arith
-          | Equal ↦ λ p. let none = absent k e.0 es Equal p (tied_not_above k e.0 p) (first _ _ h) in omega (arith, ap used_of none)
-          | Greater ↦ λ p. omega arith
-        ] refl
-
     free_uses_nothing : (used : ℕ) (quota : ℤ) → is_free used quota ≡ true → used ≡ 0
     free_uses_nothing used quota h = grind (arith, nat_tests)
 
-    -- the account's old usage goes out of the sum, and its new usage comes in
-    sum_share : (k : Name) (used : ℕ) (quota : ℤ) (es : List (Name × Share)) → T (is_sorted cmp es) → usage_sum (with_share cmp k used quota es) + used_of (find cmp k es) ≡ usage_sum es + used
-    sum_share k used quota es h =
-        elim (is_free used quota) as (λ b. is_free used quota ≡ b → usage_sum (changed cmp es k (cond b None (Some (record { used = used; quota = quota })))) + used_of (find cmp k es) ≡ usage_sum es + used) [
-          | true ↦ λ p. omega (arith, sum_without k es h, free_uses_nothing used quota p)
-          | false ↦ λ p. sum_with k (record { used = used; quota = quota }) es h
-        ] refl
-
-    used_entry : (used : ℕ) (quota : ℤ) → used_of (entry_of used quota) ≡ used
+    pub used_entry : (used : ℕ) (quota : ℤ) → used_of (entry_of used quota) ≡ used
     used_entry used quota = elim (is_free used quota) as (λ b. is_free used quota ≡ b → used_of (cond b None (Some (record { used = used; quota = quota }))) ≡ used) [
       | true ↦ λ p. sym (free_uses_nothing used quota p)
       | false ↦ λ p. refl
     ] refl
+
+    -- the account's old usage goes out of the sum, and its new usage comes in
+    pub sum_share : (k : Name) (used : ℕ) (quota : ℤ) (es : List (Name × Share)) → T (is_sorted cmp es) → usage_sum (with_share cmp k used quota es) + used_of (find cmp k es) ≡ usage_sum es + used
+    sum_share k used quota es h = omega (
+      arith,
+      weight_changed cmp (λ e. e.1.used) (λ k x share tied. refl) o es k (entry_of used quota) h,
+      used_is k (find cmp k es),
+      used_is k (entry_of used quota),
+      used_entry used quota,
+    )
 
     used_share : (k : Name) (used : ℕ) (quota : ℤ) (es : List (Name × Share)) → used_of (find cmp k (with_share cmp k used quota es)) ≡ used
     used_share k used quota es = ap used_of (find_changed cmp o es k (entry_of used quota) k ∙ ap (λ r. cond (is_eq r) (entry_of used quota) (find cmp k es)) (tied_itself o k)) ∙ used_entry used quota

@@ -4,6 +4,7 @@ use Rattle.std.specs.Ordering.{int_eq}
 use Rattle.std.specs.declared.cmp.Ordering.{Ordering}
 use Rattle.std.specs.FinMap.Entries.{find}
 use Rattle.ante_undo.specs.Entries.{changed}
+use Rattle.ante_sums.specs.Weights.{weight_of}
 use Rattle.ante_pack.specs.declared.names.Name.{Name}
 use Rattle.ante_ram.specs.declared.parts.Share.{Share}
 
@@ -19,8 +20,7 @@ quota_of (Some share) = share.quota
 
 -- what all accounts use together
 abbrev pub usage_sum : List (Name × Share) → ℕ
-usage_sum [] = 0
-usage_sum (e ∷ es) = e.1.used + usage_sum es
+usage_sum = weight_of (λ e. e.1.used)
 
 -- nothing is used, and there is no quota
 abbrev pub is_free : ℕ → ℤ → Bool

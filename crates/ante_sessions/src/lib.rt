@@ -3,11 +3,13 @@
 #![tactic(auto)]
 
 mod both;
+mod entry;
 mod kept;
 mod sessions;
 mod walk;
 
 pub use both::Both;
+pub use entry::set_entry;
 pub use kept::{Kept, Shape};
 pub use sessions::{Entries, Sessions};
 pub use walk::next_entry;

@@ -1,23 +1,30 @@
 -- What is read is spelled so, what is spelled so is read, and why nothing is.
-use Rattle.std.proofs.Common.{◌≡◌, ◌⊎◌, ℕ, ◌+◌, ◌-◌, ◌*◌, ◌%◌, ◌^◌, ◌<◌, ◌≤◌, Bool, true, false, cond, nat_lt, List, [], ◌∷◌, ◌++◌, Option, None, Some, Result, Ok, Err, IfOk, refl, sym, ap, ◌∙◌, arith, inl, inr, ⊎_elim}
+use Rattle.std.proofs.Common.{◌≡◌, ◌⊎◌, ℕ, ◌+◌, ◌-◌, ◌*◌, ◌%◌, ◌^◌, ◌<◌, ◌≤◌, Bool, true, false, cond, nat_lt, List, [], ◌∷◌, ◌++◌, Option, None, Some, Result, Ok, Err, refl, sym, ap, ◌∙◌, arith, inl, inr, ⊎_elim}
 use Rattle.std.proofs.lemmas.Bool.{ltb-false, ltb-true, lt-ltb, le-ltb}
 use Rattle.std.proofs.lemmas.Nat.{pow-add}
 use Rattle.ante_wdecode.specs.declared.integers.Misread.{Misread}
 use Rattle.ante_wdecode.specs.declared.integers.Misread.TheVariants.{Short, Leb}
-use Rattle.ante_wdecode.specs.Integers.{last_value, more_value, IsLeb, IsS32, IsCut, Reads, ◌>>=◌, ends_with, leb_at}
+use Rattle.ante_wdecode.specs.Integers.{last_value, more_value, IsLeb, IsCut, ◌>>=◌, ends_with, leb_at}
+use Rattle.ante_wdecode.specs.Faults.{IsMisspelled}
 
 abbrev pub done : {A : Type 0} → A → Result A Misread
 done x = Ok x
 
-bind_ok : {A B : Type 0} (r : Result A Misread) (f : A → Result B Misread) (y : B) → (r >>= f) ≡ Ok y → (x : A) × (r ≡ Ok x) × (f x ≡ Ok y)
+pub bind_ok : {A B E : Type 0} (r : Result A E) (f : A → Result B E) (y : B) → (r >>= f) ≡ Ok y → (x : A) × (r ≡ Ok x) × (f x ≡ Ok y)
 bind_ok (Ok x) f y e = (x, refl, e)
 bind_ok (Err d) f y e = absurd cc
 
-chosen : {A : Type 0} (b : Bool) (x y z : A) → cond b x y ≡ z → ((b ≡ true) × (x ≡ z)) ⊎ ((b ≡ false) × (y ≡ z))
+pub chosen : {A : Type 0} (b : Bool) (x y z : A) → cond b x y ≡ z → ((b ≡ true) × (x ≡ z)) ⊎ ((b ≡ false) × (y ≡ z))
 chosen true x y z h = inl (refl, h)
 chosen false x y z h = inr (refl, h)
 
-ok_is : {A : Type 0} (x y : A) → done x ≡ done y → x ≡ y
+abbrev pub good : {A E : Type 0} → A → Result A E
+good x = Ok x
+
+abbrev pub bad : {A E : Type 0} → E → Result A E
+bad e = Err e
+
+pub ok_is : {A E : Type 0} (x y : A) → good {E = E} x ≡ good y → x ≡ y
 ok_is x y e = cc
 
 ended : (o : Option ℕ) (rest : List ℕ) (x : ℕ × List ℕ) → ends_with o rest ≡ Ok x → (o ≡ Some x.0) × (rest ≡ x.1)
@@ -83,7 +90,7 @@ bind_err : {A B : Type 0} (r : Result A Misread) (g : A → B) (e : Misread) →
 bind_err (Ok x) g e h = absurd cc
 bind_err (Err d) g e h = let k : d ≡ e = cc in ap (λ (f : Misread). Err f) k
 
-cut_of : (signed : Bool) (bits : ℕ) (bytes : List ℕ) → 0 < bits → leb_at signed bits bytes ≡ Err Short → IsCut bits bytes
+pub cut_of : (signed : Bool) (bits : ℕ) (bytes : List ℕ) → 0 < bits → leb_at signed bits bytes ≡ Err Short → IsCut bits bytes
 cut_of signed bits [] some h = (some, tt)
 cut_of signed bits (b ∷ bytes) some h = ⊎_elim
     (λ p. absurd (never_short (last_value signed bits b) bytes p.1))
@@ -99,44 +106,73 @@ cut_of signed bits (b ∷ bytes) some h = ⊎_elim
     other : {A : Type 0} → let l : Result A Misread = Err Leb in l ≡ Err Short → ⊥
     other k = cc
 
-is_cut : (signed : Bool) (bits : ℕ) (bytes : List ℕ) → IsCut bits bytes → leb_at signed bits bytes ≡ Err Short
+pub is_cut : (signed : Bool) (bits : ℕ) (bytes : List ℕ) → IsCut bits bytes → leb_at signed bits bytes ≡ Err Short
 is_cut signed bits [] h = refl
 is_cut signed bits (b ∷ bytes) h =
     let lt : 7 < bits = omega (arith, h.0) in
     let c : IsCut (bits - 7) bytes = (omega (arith, h.0), h.1.1) in
     rw (le-ltb b 128 h.1.0, lt-ltb 7 bits lt, is_cut signed (bits - 7) bytes c) refl
 
--- ---- what the calls answer
-
-if_found : (signed : Bool) (bits : ℕ) (bytes : List ℕ) (r : Result (ℕ × List ℕ) Misread) → leb_at signed bits bytes ≡ r → IfOk r (λ x. (front : List ℕ) × IsLeb signed bits front x.0 × (bytes ≡ front ++ x.1))
-if_found signed bits bytes (Ok x) h = leb_found signed bits bytes x h
-if_found signed bits bytes (Err e) h = tt
-
-pub reads_leb : (signed : Bool) (bits : ℕ) (bytes : List ℕ) (r : Result (ℕ × List ℕ) Misread) → 0 < bits → r ≡ leb_at signed bits bytes → Reads (IsLeb signed bits) bits bytes r
-reads_leb signed bits bytes r some h = record {
-  found = if_found signed bits bytes r (sym h);
-  only = λ n front rest i e. h ∙ ap (leb_at signed bits) e ∙ leb_again signed bits n front rest i;
-  short = (λ k. cut_of signed bits bytes some (sym h ∙ k), λ cut. h ∙ is_cut signed bits bytes cut);
-}
+-- ---- an integer of 32 bits
 
 abbrev pub low : Result (ℕ × List ℕ) Misread → Result (ℕ × List ℕ) Misread
 low r = r >>= λ x. Ok (x.0 % 2 ^ 32, x.1)
 
-low_found : (bytes : List ℕ) (r : Result (ℕ × List ℕ) Misread) → IfOk r (λ x. (front : List ℕ) × IsLeb true 32 front x.0 × (bytes ≡ front ++ x.1)) → IfOk (low r) (λ x. (front : List ℕ) × IsS32 front x.0 × (bytes ≡ front ++ x.1))
-low_found bytes (Ok x) h = (h.0, (x.0, h.1, refl), h.2)
-low_found bytes (Err e) h = tt
-
-low_short : (r : Result (ℕ × List ℕ) Misread) → low r ≡ Err Short → r ≡ Err Short
-low_short (Ok x) h = absurd cc
-low_short (Err e) h = h
-
-pub reads_low : (bytes : List ℕ) (r : Result (ℕ × List ℕ) Misread) → Reads (IsLeb true 32) 32 bytes r → Reads IsS32 32 bytes (low r)
-reads_low bytes r h = record {
-  found = low_found bytes r h.found;
-  only = λ n front rest i e. ap low (h.only i.0 front rest i.1 e) ∙ ap (λ m. done (m, rest)) (sym i.2);
-  short = (λ k. h.short.0 (low_short r k), λ cut. ap low (h.short.1 cut));
-}
-
 pub low_is : (r : Result (ℕ × List ℕ) Misread) (x : ℕ × List ℕ) → low r ≡ Ok x → (y : ℕ × List ℕ) × (r ≡ Ok y) × (x ≡ (y.0 % 2 ^ 32, y.1))
 low_is (Ok y) x h = (y, refl, sym (ok_is (y.0 % 2 ^ 32, y.1) x h))
 low_is (Err e) x h = absurd cc
+
+pub low_leb : (r : Result (ℕ × List ℕ) Misread) → low r ≡ Err Leb → r ≡ Err Leb
+low_leb (Ok x) h = absurd cc
+low_leb (Err e) h = let k : e ≡ Leb = cc in ap (λ (f : Misread). Err f) k
+
+-- ---- where no integer begins
+
+abbrev wrong : Result (ℕ × List ℕ) Misread
+wrong = Err Leb
+
+pub misspelled : (signed : Bool) (bits : ℕ) (bytes : List ℕ) → leb_at signed bits bytes ≡ Err Leb → IsMisspelled signed bits bytes
+misspelled signed bits bytes h = (
+  λ n front rest i s. never n rest (sym h ∙ ap (leb_at signed bits) s ∙ leb_again signed bits n front rest i),
+  λ cut. other (sym h ∙ is_cut signed bits bytes cut),
+)
+  where
+    never : (n : ℕ) (rest : List ℕ) → wrong ≡ Ok (n, rest) → ⊥
+    never n rest k = cc
+
+    other : wrong ≡ Err Short → ⊥
+    other k = cc
+
+is_wrong : (signed : Bool) (bits : ℕ) (bytes : List ℕ) → 0 < bits → IsMisspelled signed bits bytes → leb_at signed bits bytes ≡ Err Leb
+is_wrong signed bits bytes some h = by_result (leb_at signed bits bytes) refl
+  where
+    by_result : (r : Result (ℕ × List ℕ) Misread) → leb_at signed bits bytes ≡ r → leb_at signed bits bytes ≡ Err Leb
+    by_result (Ok x) e = let f = leb_found signed bits bytes x e in absurd (h.0 x.0 f.0 x.1 f.1 f.2)
+    by_result (Err Short) e = absurd (h.1 (cut_of signed bits bytes some e))
+    by_result (Err Leb) e = e
+
+ends_wrong : (o : Option ℕ) (rest more : List ℕ) → ends_with o rest ≡ Err Leb → ends_with o more ≡ Err Leb
+ends_wrong None rest more h = refl
+ends_wrong (Some n) rest more h = absurd cc
+
+wrong_more : (signed : Bool) (bits : ℕ) (bytes more : List ℕ) → leb_at signed bits bytes ≡ Err Leb → leb_at signed bits (bytes ++ more) ≡ Err Leb
+wrong_more signed bits [] more h = absurd (other h)
+  where
+    other : bad {A = ℕ × List ℕ} Short ≡ Err Leb → ⊥
+    other k = cc
+wrong_more signed bits (b ∷ bytes) more h = ⊎_elim
+    (λ p. ap (λ t. cond t (ends_with (last_value signed bits b) (bytes ++ more)) (rest_of (bytes ++ more))) p.0 ∙ ends_wrong (last_value signed bits b) bytes (bytes ++ more) p.1)
+    (λ p. ap (λ t. cond t (ends_with (last_value signed bits b) (bytes ++ more)) (rest_of (bytes ++ more))) p.0 ∙ ⊎_elim
+    (λ q.
+    let e = bind_err (leb_at signed (bits - 7) bytes) (λ high. (more_value b high.0, high.1)) Leb q.1 in
+    ap (λ t. cond t (leb_at signed (bits - 7) (bytes ++ more) >>= λ high. done (more_value b high.0, high.1)) wrong) q.0
+    ∙ ap (λ r. r >>= λ high. done (more_value b high.0, high.1)) (wrong_more signed (bits - 7) bytes more e))
+    (λ q. ap (λ t. cond t (leb_at signed (bits - 7) (bytes ++ more) >>= λ high. done (more_value b high.0, high.1)) wrong) q.0)
+    (chosen (nat_lt 7 bits) _ wrong (Err Leb) p.1))
+    (chosen (nat_lt b 128) (ends_with (last_value signed bits b) bytes) _ (Err Leb) h)
+  where
+    rest_of : List ℕ → Result (ℕ × List ℕ) Misread
+    rest_of z = cond (nat_lt 7 bits) (leb_at signed (bits - 7) z >>= λ high. done (more_value b high.0, high.1)) wrong
+
+pub misspelled_more : (signed : Bool) (bits : ℕ) (bytes more : List ℕ) → 0 < bits → IsMisspelled signed bits bytes → IsMisspelled signed bits (bytes ++ more)
+misspelled_more signed bits bytes more some h = misspelled signed bits (bytes ++ more) (wrong_more signed bits bytes more (is_wrong signed bits bytes some h))

@@ -1,5 +1,9 @@
+mod Bodies
+mod Fronts
 mod Grammar
-mod Labels
+mod Laws
 mod Lebs
+mod Modules
+mod Order
 mod Sequences
-mod Singles
+mod Values

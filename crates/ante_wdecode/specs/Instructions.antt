@@ -1,5 +1,5 @@
 -- The instructions (section 5.4).
-use Rattle.std.specs.Prelude.{◌≡◌, ◌⊎◌, ℕ, zero, suc, ◌≤◌, List, [], ◌∷◌, ◌++◌, length, Option, None, Some}
+use Rattle.std.specs.Prelude.{◌≡◌, ◌⊎◌, ℕ, zero, suc, List, [], ◌∷◌, ◌++◌, Option, None, Some}
 use Rattle.ante_wtree.specs.declared.instructions.ValueKind.{ValueKind}
 use Rattle.ante_wtree.specs.declared.instructions.ValueKind.TheVariants.{I32, I64}
 use Rattle.ante_wtree.specs.declared.instructions.MemArg.{MemArg}
@@ -10,24 +10,13 @@ use Rattle.ante_wdecode.specs.declared.opcodes.Indexed.{Indexed}
 use Rattle.ante_wdecode.specs.declared.opcodes.Indexed.TheVariants as indexed
 use Rattle.ante_wdecode.specs.declared.opcodes.Lead.{Lead}
 use Rattle.ante_wdecode.specs.declared.opcodes.Lead.TheVariants as lead
-use Rattle.ante_wdecode.specs.Integers.{IsU32, IsS32, IsS64}
-use Rattle.ante_wdecode.specs.Opcodes.{Leads}
+use Rattle.ante_wdecode.specs.Rules.{Rule, yields, nothing, one_of, byte, items, u32, s32, s64, limited}
+use Rattle.ante_wdecode.specs.Turns.{◌>>=◌}
+use Rattle.ante_wdecode.specs.Opcodes.{Leads, opcode, no_kind}
 
 -- one thing at the front, and another in the bytes after it
 abbrev pub Before : (List ℕ → Type 0) → (List ℕ → Type 0) → List ℕ → Type 0
 Before first rest bytes = (a b : List ℕ) × first a × rest b × (bytes ≡ a ++ b)
-
-abbrev pub AreU32 : List ℕ → List ℕ → Type 0
-AreU32 [] bytes = bytes ≡ []
-AreU32 (n ∷ ns) bytes = Before (λ a. IsU32 a n) (AreU32 ns) bytes
-
--- a vector of numbers (section 5.1.3): their count, and each of them
-abbrev pub IsVector : List ℕ → List ℕ → Type 0
-IsVector ns bytes = Before (λ a. IsU32 a (length ns)) (AreU32 ns) bytes
-
--- the alignment, and the offset (section 5.4.4)
-abbrev pub IsMemArg : MemArg → List ℕ → Type 0
-IsMemArg m bytes = Before (λ a. IsU32 a m.align) (λ b. IsU32 b m.offset) bytes
 
 abbrev pub indexed_of : Indexed → ℕ → PlainInstr
 indexed_of indexed.LocalGet n = plain.LocalGet n
@@ -36,37 +25,87 @@ indexed_of indexed.LocalTee n = plain.LocalTee n
 indexed_of indexed.GlobalGet n = plain.GlobalGet n
 indexed_of indexed.GlobalSet n = plain.GlobalSet n
 
--- The bytes after an opcode complete an instruction without bodies. An instruction is what it makes of those after it.
-abbrev pub Completes : Lead → List ℕ → (Expression → Expression) → Type 0
-Completes (lead.Fixed i) bytes make = (bytes ≡ []) × (make ≡ Plain i)
-Completes (lead.Indexed x) bytes make = (n : ℕ) × IsU32 bytes n × (make ≡ Plain (indexed_of x n))
-Completes (lead.Load k) bytes make = (m : MemArg) × IsMemArg m bytes × (make ≡ Plain (plain.Load k m))
-Completes (lead.Store k) bytes make = (m : MemArg) × IsMemArg m bytes × (make ≡ Plain (plain.Store k m))
-Completes lead.MemorySize bytes make = (bytes ≡ 0x00 ∷ []) × (make ≡ Plain plain.MemorySize)
-Completes lead.MemoryGrow bytes make = (bytes ≡ 0x00 ∷ []) × (make ≡ MemoryGrow)
-Completes lead.I32Const bytes make = (n : ℕ) × IsS32 bytes n × (make ≡ Plain (plain.I32Const n))
-Completes lead.I64Const bytes make = (n : ℕ) × IsS64 bytes n × (make ≡ Plain (plain.I64Const n))
-Completes lead.Br bytes make = (label : ℕ) × IsU32 bytes label × (make ≡ Br label)
-Completes lead.BrIf bytes make = (label : ℕ) × IsU32 bytes label × (make ≡ BrIf label)
-Completes lead.BrTable bytes make = (labels : List ℕ) × (label : ℕ) × (length labels ≤ 8192) × Before (IsVector labels) (λ b. IsU32 b label) bytes × (make ≡ BrTable labels label)
-Completes lead.Return bytes make = (bytes ≡ []) × (make ≡ Return)
-Completes lead.Call bytes make = (function : ℕ) × IsU32 bytes function × (make ≡ Call function)
-Completes lead.CallIndirect bytes make = (n : ℕ) × Before (λ a. IsU32 a n) (λ b. b ≡ 0x00 ∷ []) bytes × (make ≡ CallIndirect n)
-Completes lead.Block bytes make = ⊥
-Completes lead.Loop bytes make = ⊥
-Completes lead.If bytes make = ⊥
-Completes lead.Else bytes make = ⊥
-Completes lead.End bytes make = ⊥
+-- the alignment, and the offset (section 5.4.4)
+abbrev pub memarg : Rule MemArg
+memarg = do
+  align ← u32
+  offset ← u32
+  yields (record { align = align; offset = offset })
+
+-- vec(B), of at most so many items (section 5.1.3)
+abbrev pub vector : {A : Type 0} → ℕ → Rule A → Rule (List A)
+vector most item = do
+  n ← limited most
+  items n item
+
+-- What completes an instruction without bodies, after its opcode. An instruction is what it makes of those after it.
+abbrev pub completes : Lead → Rule (Expression → Expression)
+completes (lead.Fixed i) = yields (Plain i)
+completes (lead.Indexed x) = do
+  n ← u32
+  yields (Plain (indexed_of x n))
+completes (lead.Load k) = do
+  at ← memarg
+  yields (Plain (plain.Load k at))
+completes (lead.Store k) = do
+  at ← memarg
+  yields (Plain (plain.Store k at))
+completes lead.MemorySize = do
+  fixed ← byte 0x00
+  yields (Plain plain.MemorySize)
+completes lead.MemoryGrow = do
+  fixed ← byte 0x00
+  yields MemoryGrow
+completes lead.I32Const = do
+  n ← s32
+  yields (Plain (plain.I32Const n))
+completes lead.I64Const = do
+  n ← s64
+  yields (Plain (plain.I64Const n))
+completes lead.Br = do
+  label ← u32
+  yields (Br label)
+completes lead.BrIf = do
+  label ← u32
+  yields (BrIf label)
+completes lead.BrTable = do
+  labels ← vector 8192 u32
+  label ← u32
+  yields (BrTable labels label)
+completes lead.Return = yields Return
+completes lead.Call = do
+  function ← u32
+  yields (Call function)
+completes lead.CallIndirect = do
+  n ← u32
+  fixed ← byte 0x00
+  yields (CallIndirect n)
+completes lead.Block = nothing
+completes lead.Loop = nothing
+completes lead.If = nothing
+completes lead.Else = nothing
+completes lead.End = nothing
 
 -- an instruction without bodies
+abbrev pub single : Rule (Expression → Expression)
+single = do
+  l ← opcode
+  completes l
+
 abbrev pub IsSingle : (Expression → Expression) → List ℕ → Type 0
-IsSingle make bytes = (opcode : ℕ) × (more : List ℕ) × (l : Lead) × Leads opcode l × Completes l more make × (bytes ≡ opcode ∷ more)
+IsSingle make bytes = single.Spells make bytes
 
 -- blocktype: the result's kind, where there is one (section 5.3.2)
 abbrev pub kind_byte : Option ValueKind → ℕ
 kind_byte None = 0x40
 kind_byte (Some I32) = 0x7F
 kind_byte (Some I64) = 0x7E
+
+abbrev pub block_types : List (ℕ × Option ValueKind)
+block_types = (0x40, None) ∷ (0x7F, Some I32) ∷ (0x7E, Some I64) ∷ []
+
+abbrev pub block_type : Rule (Option ValueKind)
+block_type = one_of no_kind block_types
 
 -- an instruction with one body, which ends with `end`
 abbrev pub Encloses : Lead → Option ValueKind → (List ℕ → Type 0) → List ℕ → Type 0

@@ -1,5 +1,5 @@
 -- Integers in LEB128 (section 5.2.2). Their values are words of 64 bits, a negative one in two's complement.
-use Rattle.std.specs.Prelude.{◌≡◌, ◌↔◌, ℕ, ◌+◌, ◌-◌, ◌*◌, ◌%◌, ◌^◌, ◌<◌, ◌≤◌, Bool, true, false, List, [], ◌∷◌, ◌++◌, length, Option, None, Some, Result, Ok, Err, IfOk, nat_lt, if◌then◌else◌}
+use Rattle.std.specs.Prelude.{◌≡◌, ℕ, ◌+◌, ◌-◌, ◌*◌, ◌%◌, ◌^◌, ◌<◌, ◌≤◌, Bool, true, false, List, [], ◌∷◌, length, Option, None, Some, Result, Ok, Err, nat_lt, if◌then◌else◌}
 use Rattle.std.specs.List.{AllByRecursion}
 use Rattle.ante_wdecode.specs.declared.integers.Misread.{Misread}
 use Rattle.ante_wdecode.specs.declared.integers.Misread.TheVariants.{Short, Leb}
@@ -39,7 +39,7 @@ IsCut bits bytes = (7 * length bytes < bits) × AllByRecursion (λ b. 128 ≤ b)
 -- ---- what is read
 
 infixl 10 ◌>>=◌
-abbrev pub ◌>>=◌ : {A B : Type 0} → Result A Misread → (A → Result B Misread) → Result B Misread
+abbrev pub ◌>>=◌ : {A B E : Type 0} → Result A E → (A → Result B E) → Result B E
 (Ok x) >>= f = f x
 (Err e) >>= f = Err e
 
@@ -67,10 +67,3 @@ s64_at bytes = leb_at true 64 bytes
 abbrev pub seen : {X Y : Type 0} → (X → Y) → Result X Misread → Result Y Misread
 seen view (Ok x) = Ok (view x)
 seen view (Err e) = Err e
-
--- The integer that is answered is spelled at the front of the bytes, and the rest is what follows; an integer that is
--- spelled there is answered; and Short comes exactly where the bytes end within an integer.
-pub record Reads (Spells : List ℕ → ℕ → Type 0) (bits : ℕ) (bytes : List ℕ) (result : Result (ℕ × List ℕ) Misread) : Type 0 where
-  pub found : IfOk result (λ x. (front : List ℕ) × Spells front x.0 × (bytes ≡ front ++ x.1))
-  pub only : (n : ℕ) (front rest : List ℕ) → Spells front n → bytes ≡ front ++ rest → result ≡ Ok (n, rest)
-  pub short : (result ≡ Err Short) ↔ IsCut bits bytes

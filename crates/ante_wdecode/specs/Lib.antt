@@ -1,4 +1,10 @@
+pub mod Decoding
+pub mod Faults
 pub mod Instructions
 pub mod Integers
+pub mod Modules
 pub mod Opcodes
 pub mod Reading
+pub mod Rules
+pub mod Sections
+pub mod Turns

@@ -1,5 +1,5 @@
 -- The opcodes of the profile (sections 5.4.1 to 5.4.5).
-use Rattle.std.specs.Prelude.{◌≡◌, ℕ, List, [], ◌∷◌, Option, None, Some, nat_eq, if◌then◌else◌}
+use Rattle.std.specs.Prelude.{◌≡◌, ℕ, Bool, ◌&&◌, ◌||◌, List, [], ◌∷◌, Some, nat_le, if◌then◌else◌}
 use Rattle.ante_wnum.specs.declared.Unary.TheVariants as unary
 use Rattle.ante_wnum.specs.declared.Binary.TheVariants as binary
 use Rattle.ante_wnum.specs.declared.Compare.TheVariants as compare
@@ -9,6 +9,11 @@ use Rattle.ante_wtree.specs.declared.instructions.PlainInstr.TheVariants as plai
 use Rattle.ante_wdecode.specs.declared.opcodes.Lead.{Lead}
 use Rattle.ante_wdecode.specs.declared.opcodes.Lead.TheVariants.{Fixed, Indexed, Load, Store, MemorySize, MemoryGrow, I32Const, I64Const, Br, BrIf, BrTable, Return, Call, CallIndirect, Block, Loop, If, Else, End}
 use Rattle.ante_wdecode.specs.declared.opcodes.Indexed.TheVariants as indexed
+use Rattle.ante_wtree.specs.declared.instructions.ValueKind.{ValueKind}
+use Rattle.ante_wtree.specs.declared.instructions.ValueKind.TheVariants.{I32, I64}
+use Rattle.ante_wdecode.specs.declared.fault.DecodeKind.{DecodeKind}
+use Rattle.ante_wdecode.specs.declared.fault.DecodeKind.TheVariants as kind
+use Rattle.ante_wdecode.specs.Rules.{Rule, among, one_of}
 
 abbrev pub i64_numbers : List (ℕ × Lead)
 i64_numbers =
@@ -134,11 +139,33 @@ opcodes =
     (0x24, Indexed indexed.GlobalSet) ∷
     memory
 
--- what a byte begins, by the opcodes of a list
-abbrev pub among : List (ℕ × Lead) → ℕ → Option Lead
-among [] byte = None
-among (entry ∷ entries) byte = if nat_eq byte entry.0 then Some entry.1 else among entries byte
-
 -- The byte is the opcode of this lead.
 abbrev pub Leads : ℕ → Lead → Type 0
 Leads byte lead = among opcodes byte ≡ Some lead
+
+abbrev pub is_between : (low high byte : ℕ) → Bool
+is_between low high byte = nat_le low byte && nat_le byte high
+
+-- the opcodes of floating-point instructions
+abbrev pub is_float : ℕ → Bool
+is_float byte =
+    is_between 0x2A 0x2B byte || is_between 0x38 0x39 byte || is_between 0x43 0x44 byte || is_between 0x5B 0x66 byte
+    || is_between 0x8B 0xA6 byte || is_between 0xA8 0xAB byte || is_between 0xAE 0xBF byte
+
+-- what is wrong with a byte that is no opcode of the profile
+abbrev pub no_opcode : ℕ → DecodeKind
+no_opcode byte = if is_float byte then kind.Float else kind.Opcode
+
+abbrev pub opcode : Rule Lead
+opcode = one_of no_opcode opcodes
+
+-- what is wrong with a byte that is no kind of values, of which 7C and 7D are the floating-point ones
+abbrev pub no_kind : ℕ → DecodeKind
+no_kind byte = if is_between 0x7C 0x7D byte then kind.Float else kind.Form
+
+-- valtype (section 5.3.1)
+abbrev pub value_types : List (ℕ × ValueKind)
+value_types = (0x7F, I32) ∷ (0x7E, I64) ∷ []
+
+abbrev pub value_type : Rule ValueKind
+value_type = one_of no_kind value_types

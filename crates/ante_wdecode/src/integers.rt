@@ -1,5 +1,5 @@
 ghost use Rattle.std.specs.Prelude.{◌≡◌, ◌<◌, ◌≤◌, ◌^◌, true, false};
-ghost use Rattle.ante_wdecode.specs.Integers.{last_value, more_value, leb_at, IsU32, IsS32, IsS64, Reads, seen, u32_at, s32_at, s64_at};
+ghost use Rattle.ante_wdecode.specs.Integers.{last_value, more_value, leb_at, seen, u32_at, s32_at, s64_at};
 
 /// Why no integer stands at the front of some bytes.
 #[derive(Clone, Copy, PartialEq, Eq, Debug)]
@@ -88,8 +88,7 @@ fn integer(signed: bool, bits: u32, bytes: &[u8]) -> Result<(u64, &[u8]), Misrea
 /// The u32 at the front of the bytes (section 5.2.2), and the bytes after it. Longer spellings than the shortest are
 /// read, up to five bytes.
 pub fn read_u32(bytes: &[u8]) -> Result<(u32, &[u8]), Misread>
-    ensures spelled { Reads IsU32 32 bytes.now (seen (λ x. (x.0, x.1.now)) result) }
-    ensures exact { seen (λ x. (x.0, x.1.now)) result ≡ u32_at bytes.now }
+    ensures { seen (λ x. (x.0, x.1.now)) result ≡ u32_at bytes.now }
 {
     match integer(false, 32, bytes) {
         Ok((value, rest)) => Ok((value as u32, rest)),
@@ -99,8 +98,7 @@ pub fn read_u32(bytes: &[u8]) -> Result<(u32, &[u8]), Misread>
 
 /// The s32 at the front of the bytes (section 5.2.2), as its 32 bits, and the bytes after it; up to five bytes.
 pub fn read_s32(bytes: &[u8]) -> Result<(u32, &[u8]), Misread>
-    ensures spelled { Reads IsS32 32 bytes.now (seen (λ x. (x.0, x.1.now)) result) }
-    ensures exact { seen (λ x. (x.0, x.1.now)) result ≡ s32_at bytes.now }
+    ensures { seen (λ x. (x.0, x.1.now)) result ≡ s32_at bytes.now }
 {
     match integer(true, 32, bytes) {
         Ok((value, rest)) => Ok(((value % 0x1_0000_0000) as u32, rest)),
@@ -110,8 +108,7 @@ pub fn read_s32(bytes: &[u8]) -> Result<(u32, &[u8]), Misread>
 
 /// The s64 at the front of the bytes (section 5.2.2), as its 64 bits, and the bytes after it; up to ten bytes.
 pub fn read_s64(bytes: &[u8]) -> Result<(u64, &[u8]), Misread>
-    ensures spelled { Reads IsS64 64 bytes.now (seen (λ x. (x.0, x.1.now)) result) }
-    ensures exact { seen (λ x. (x.0, x.1.now)) result ≡ s64_at bytes.now }
+    ensures { seen (λ x. (x.0, x.1.now)) result ≡ s64_at bytes.now }
 {
     match integer(true, 64, bytes) {
         Ok((value, rest)) => Ok((value, rest)),

@@ -1,13 +1,17 @@
 //! The binary format of WebAssembly Core 1.0 (chapter 5), without floating-point numbers.
 #![tactic(auto)]
 
+mod code;
 mod fault;
 mod integers;
+mod items;
 mod nested;
 mod opcodes;
+mod parts;
+mod sections;
 mod single;
+mod types;
+mod whole;
 
-pub use fault::{DecodeKind, Unread};
-pub use integers::{Misread, read_s32, read_s64, read_u32};
-pub use nested::read_expression;
-pub use single::read_single;
+pub use fault::{DecodeError, DecodeKind};
+pub use whole::decode;

@@ -1,11 +1,12 @@
-ghost use Rattle.std.specs.Prelude.{◌≡◌, ℕ, ◌<◌, ◌≤◌, ◌++◌, List, Some, length, IfOk};
-ghost use Rattle.ante_wtree.specs.Expressions.{Expression, put, expression_of, If};
-ghost use Rattle.ante_wdecode.specs.Instructions.{IsExpression};
-ghost use Rattle.ante_wdecode.specs.Reading.{Gives, Sequence, kind_at, body_at, block_at, if_at, item_at, item_of, inside, seq_at, block_of};
+ghost use Rattle.std.specs.Prelude.{◌≡◌, ℕ, ◌<◌, ◌≤◌, length};
+ghost use Rattle.ante_wtree.specs.Expressions.{put, expression_of, If};
+ghost use Rattle.ante_wdecode.specs.Rules.{Gives, among};
+ghost use Rattle.ante_wdecode.specs.Instructions.{block_types, block_type};
+ghost use Rattle.ante_wdecode.specs.Reading.{Sequence, body_at, block_at, if_at, deeper, item_at, item_of, inside, seq_at, block_of, expression};
 
-use crate::fault::{DecodeKind, Unread, fault};
-use crate::opcodes::{Lead, lead_of};
-use crate::single::{rest_of, unknown};
+use crate::fault::{DecodeKind, Unread, ended, fault};
+use crate::opcodes::{Lead, not_a_kind, read_opcode};
+use crate::single::rest_of;
 use ante_wtree::{Instr, ValueKind};
 use std::alloc::Global;
 
@@ -16,15 +17,26 @@ pub enum Part {
     One(Instr),
 }
 
-fn result_kind(bytes: &[u8]) -> Result<(Option<ValueKind>, &[u8]), Unread>
-    ensures { Gives (λ x. (x.0, x.1.now)) result (kind_at bytes.now) }
+fn block_type_of(byte: u8) -> Option<Option<ValueKind>>
+    ensures { result ≡ among block_types byte }
 {
-    match bytes.split_first() {
-        Some((0x40, rest)) => Ok((None, rest)),
-        Some((0x7F, rest)) => Ok((Some(ValueKind::I32), rest)),
-        Some((0x7E, rest)) => Ok((Some(ValueKind::I64), rest)),
-        Some((0x7C | 0x7D, _)) => Err(fault(bytes, DecodeKind::Float)),
-        _ => Err(fault(bytes, DecodeKind::Form)),
+    match byte {
+        0x40 => Some(None),
+        0x7F => Some(Some(ValueKind::I32)),
+        0x7E => Some(Some(ValueKind::I64)),
+        _ => None,
+    }
+}
+
+fn result_kind(bytes: &[u8]) -> Result<(Option<ValueKind>, &[u8]), Unread>
+    ensures { Gives (λ x. (x.0, x.1.now)) result (block_type.read bytes.now) }
+{
+    let Some((first, rest)) = bytes.split_first() else {
+        return Err(ended(bytes));
+    };
+    match block_type_of(*first) {
+        Some(kind) => Ok((kind, rest)),
+        None => Err(fault(bytes, not_a_kind(*first))),
     }
 }
 
@@ -77,18 +89,12 @@ fn if_instr(kind: Option<ValueKind>, one: Vec<Instr>, two: Vec<Instr>) -> Instr
 }
 
 #[cycle(sequence)]
-fn block(
-    alloc: Global,
-    depth: u32,
-    left: usize,
-    looped: bool,
-    bytes: &[u8],
-) -> Result<(Instr, &[u8]), Unread>
-    ensures { (n : ℕ) → length bytes.now < n → Gives (λ x. (put x.0, x.1.now)) result (block_at (block_of looped) (inside (seq_at n) depth) bytes.now) }
+fn block(alloc: Global, depth: u32, looped: bool, bytes: &[u8]) -> Result<(Instr, &[u8]), Unread>
+    ensures { (n : ℕ) → length bytes.now < n → Gives (λ x. (put x.0, x.1.now)) result (deeper depth bytes.now (block_at (block_of looped) (inside (seq_at n) depth) bytes.now)) }
 {
     if depth == 0 {
         return Err(Unread::Fault {
-            left,
+            left: bytes.len() + 1,
             kind: DecodeKind::Limit,
         });
     }
@@ -98,12 +104,12 @@ fn block(
 }
 
 #[cycle(sequence)]
-fn choice(alloc: Global, depth: u32, left: usize, bytes: &[u8]) -> Result<(Instr, &[u8]), Unread>
-    ensures { (n : ℕ) → length bytes.now < n → Gives (λ x. (put x.0, x.1.now)) result (if_at (inside (seq_at n) depth) bytes.now) }
+fn choice(alloc: Global, depth: u32, bytes: &[u8]) -> Result<(Instr, &[u8]), Unread>
+    ensures { (n : ℕ) → length bytes.now < n → Gives (λ x. (put x.0, x.1.now)) result (deeper depth bytes.now (if_at (inside (seq_at n) depth) bytes.now)) }
 {
     if depth == 0 {
         return Err(Unread::Fault {
-            left,
+            left: bytes.len() + 1,
             kind: DecodeKind::Limit,
         });
     }
@@ -118,27 +124,22 @@ fn choice(alloc: Global, depth: u32, left: usize, bytes: &[u8]) -> Result<(Instr
 
 #[cycle(sequence)]
 fn next_part(alloc: Global, depth: u32, bytes: &[u8]) -> Result<(Part, &[u8]), Unread>
-    ensures { (n : ℕ) → length bytes.now ≤ n → Gives (λ x. (item_of x.0, x.1.now)) result (item_at (inside (seq_at n) depth) bytes.now) }
+    ensures { (n : ℕ) → length bytes.now ≤ n → Gives (λ x. (item_of x.0, x.1.now)) result (item_at depth (inside (seq_at n) depth) bytes.now) }
 {
-    let Some((first, rest)) = bytes.split_first() else {
-        return Err(fault(bytes, DecodeKind::Form));
-    };
-    let Some(lead) = lead_of(*first) else {
-        return Err(fault(bytes, unknown(*first)));
-    };
+    let (lead, rest) = read_opcode(bytes)?;
     match lead {
         Lead::Else => Ok((Part::Ends(true), rest)),
         Lead::End => Ok((Part::Ends(false), rest)),
         Lead::Block => {
-            let (instr, rest) = block(alloc, depth, bytes.len(), false, rest)?;
+            let (instr, rest) = block(alloc, depth, false, rest)?;
             Ok((Part::One(instr), rest))
         }
         Lead::Loop => {
-            let (instr, rest) = block(alloc, depth, bytes.len(), true, rest)?;
+            let (instr, rest) = block(alloc, depth, true, rest)?;
             Ok((Part::One(instr), rest))
         }
         Lead::If => {
-            let (instr, rest) = choice(alloc, depth, bytes.len(), rest)?;
+            let (instr, rest) = choice(alloc, depth, rest)?;
             Ok((Part::One(instr), rest))
         }
         other => {
@@ -148,14 +149,13 @@ fn next_part(alloc: Global, depth: u32, bytes: &[u8]) -> Result<(Part, &[u8]), U
     }
 }
 
-/// An expression (section 5.4.6) at the front, in which blocks are nested `depth` deep at most, and the bytes after it.
+/// An expression (section 5.4.6) in which blocks are nested `depth` deep at most.
 pub fn read_expression(
     alloc: Global,
     depth: u32,
     bytes: &[u8],
 ) -> Result<(Vec<Instr>, &[u8]), Unread>
-    ensures found { IfOk result (λ x. (front : List ℕ) × IsExpression depth (expression_of x.0.items) front × (bytes.now ≡ front ++ x.1.now)) }
-    ensures only { (e : Expression) (front rest : List ℕ) → IsExpression depth e front → bytes.now ≡ front ++ rest → Gives {Y = Expression × List ℕ} (λ x. (expression_of x.0.items, x.1.now)) result (Some (e, rest)) }
+    ensures { Gives (λ x. (expression_of x.0.items, x.1.now)) result ((expression depth).read bytes.now) }
 {
     match body(alloc, depth, bytes) {
         Ok((body, rest)) => Ok((body, rest)),

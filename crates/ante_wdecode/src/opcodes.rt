@@ -1,6 +1,8 @@
 ghost use Rattle.std.specs.Prelude.{◌≡◌};
-ghost use Rattle.ante_wdecode.specs.Opcodes.{among, opcodes, memory, comparisons, i32_numbers, i64_numbers};
+ghost use Rattle.ante_wdecode.specs.Rules.{Gives, among};
+ghost use Rattle.ante_wdecode.specs.Opcodes.{opcodes, memory, comparisons, i32_numbers, i64_numbers, is_between, is_float, no_opcode, opcode, no_kind};
 
+use crate::fault::{DecodeKind, Unread, ended, fault};
 use ante_wnum::{Binary, Compare, Unary};
 use ante_wtree::{LoadKind, PlainInstr, StoreKind};
 
@@ -181,5 +183,56 @@ fn lead_of_i64_numbers(byte: u8) -> Option<Lead>
         0xAC => Some(Lead::Fixed(PlainInstr::I64ExtendI32S)),
         0xAD => Some(Lead::Fixed(PlainInstr::I64ExtendI32U)),
         _ => None,
+    }
+}
+
+fn is_within(low: u8, high: u8, byte: u8) -> bool
+    ensures { result ≡ is_between low high byte }
+{
+    low <= byte && byte <= high
+}
+
+fn is_float_opcode(byte: u8) -> bool
+    ensures { result ≡ is_float byte }
+{
+    is_within(0x2A, 0x2B, byte)
+        || is_within(0x38, 0x39, byte)
+        || is_within(0x43, 0x44, byte)
+        || is_within(0x5B, 0x66, byte)
+        || is_within(0x8B, 0xA6, byte)
+        || is_within(0xA8, 0xAB, byte)
+        || is_within(0xAE, 0xBF, byte)
+}
+
+fn not_an_opcode(byte: u8) -> DecodeKind
+    ensures { result ≡ no_opcode byte }
+{
+    if is_float_opcode(byte) {
+        DecodeKind::Float
+    } else {
+        DecodeKind::Opcode
+    }
+}
+
+/// What is wrong with a byte that is no kind of values.
+pub fn not_a_kind(byte: u8) -> DecodeKind
+    ensures { result ≡ no_kind byte }
+{
+    if is_within(0x7C, 0x7D, byte) {
+        DecodeKind::Float
+    } else {
+        DecodeKind::Form
+    }
+}
+
+pub fn read_opcode(bytes: &[u8]) -> Result<(Lead, &[u8]), Unread>
+    ensures { Gives (λ x. (x.0, x.1.now)) result (opcode.read bytes.now) }
+{
+    let Some((first, rest)) = bytes.split_first() else {
+        return Err(ended(bytes));
+    };
+    match lead_of(*first) {
+        Some(lead) => Ok((lead, rest)),
+        None => Err(fault(bytes, not_an_opcode(*first))),
     }
 }

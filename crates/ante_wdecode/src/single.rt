@@ -1,87 +1,23 @@
-ghost use Rattle.std.specs.Prelude.{◌≡◌, ℕ, ◌++◌, List, Some, IfOk};
-ghost use Rattle.ante_wtree.specs.Expressions.{Expression, put, Plain};
-ghost use Rattle.ante_wdecode.specs.Instructions.{indexed_of, IsSingle};
-ghost use Rattle.ante_wdecode.specs.Reading.{Gives, value_of, number_at, labels_at, table_at, memarg_at, zero_at, rest_at, single_at};
-ghost use Rattle.ante_wdecode.specs.Integers.{s32_at, s64_at};
+ghost use Rattle.std.specs.Prelude.{◌≡◌};
+ghost use Rattle.ante_wtree.specs.Expressions.{put, Plain};
+ghost use Rattle.ante_wdecode.specs.Rules.{Gives};
+ghost use Rattle.ante_wdecode.specs.Instructions.{indexed_of, memarg, completes};
 
 use crate::fault::{DecodeKind, Unread, fault};
-use crate::integers::{Misread, read_s32, read_s64, read_u32};
-use crate::opcodes::{Indexed, Lead, lead_of};
-use ante_pack::Seq;
+use crate::items::{number, read_vector, signed32, signed64, this_byte};
+use crate::opcodes::{Indexed, Lead};
 use ante_wtree::{Instr, MemArg, PlainInstr};
 use std::alloc::Global;
 
 /// The most targets of a `br_table`.
 const MOST_TARGETS: u32 = 8192;
 
-pub fn number(bytes: &[u8]) -> Result<(u32, &[u8]), Unread>
-    ensures { Gives (λ x. (x.0, x.1.now)) result (number_at bytes.now) }
-{
-    match read_u32(bytes) {
-        Ok((value, rest)) => Ok((value, rest)),
-        Err(Misread::Short) => Err(fault(bytes, DecodeKind::Form)),
-        Err(Misread::Leb) => Err(fault(bytes, DecodeKind::Leb)),
-    }
-}
-
-fn signed32(bytes: &[u8]) -> Result<(u32, &[u8]), Unread>
-    ensures { Gives (λ x. (x.0, x.1.now)) result (value_of (s32_at bytes.now)) }
-{
-    match read_s32(bytes) {
-        Ok((value, rest)) => Ok((value, rest)),
-        Err(Misread::Short) => Err(fault(bytes, DecodeKind::Form)),
-        Err(Misread::Leb) => Err(fault(bytes, DecodeKind::Leb)),
-    }
-}
-
-fn signed64(bytes: &[u8]) -> Result<(u64, &[u8]), Unread>
-    ensures { Gives (λ x. (x.0, x.1.now)) result (value_of (s64_at bytes.now)) }
-{
-    match read_s64(bytes) {
-        Ok((value, rest)) => Ok((value, rest)),
-        Err(Misread::Short) => Err(fault(bytes, DecodeKind::Form)),
-        Err(Misread::Leb) => Err(fault(bytes, DecodeKind::Leb)),
-    }
-}
-
-fn labels(alloc: Global, count: u32, bytes: &[u8]) -> Result<(Seq<u32>, &[u8]), Unread>
-    ensures { Gives (λ x. (x.0, x.1.now)) result (labels_at count bytes.now) }
-{
-    let mut labels = Seq::new(alloc);
-    let mut rest = bytes;
-    for _ in 0..count {
-        let (label, after) = number(rest)?;
-        labels.push(alloc, label)?;
-        rest = after;
-    }
-    Ok((labels, rest))
-}
-
-fn table(alloc: Global, bytes: &[u8]) -> Result<(Seq<u32>, &[u8]), Unread>
-    ensures { Gives (λ x. (x.0, x.1.now)) result (table_at bytes.now) }
-{
-    let (count, rest) = number(bytes)?;
-    if count > MOST_TARGETS {
-        return Err(fault(bytes, DecodeKind::Limit));
-    }
-    labels(alloc, count, rest)
-}
-
-fn memarg(bytes: &[u8]) -> Result<(MemArg, &[u8]), Unread>
-    ensures { Gives (λ x. (x.0, x.1.now)) result (memarg_at bytes.now) }
+fn read_memarg(bytes: &[u8]) -> Result<(MemArg, &[u8]), Unread>
+    ensures { Gives (λ x. (x.0, x.1.now)) result (memarg.read bytes.now) }
 {
     let (align, rest) = number(bytes)?;
     let (offset, rest) = number(rest)?;
     Ok((MemArg { align, offset }, rest))
-}
-
-fn zero_byte(bytes: &[u8]) -> Result<&[u8], Unread>
-    ensures { Gives (λ x. x.now) result (zero_at bytes.now) }
-{
-    match bytes.split_first() {
-        Some((0, rest)) => Ok(rest),
-        _ => Err(fault(bytes, DecodeKind::Form)),
-    }
 }
 
 fn indexed_instr(indexed: Indexed, n: u32) -> Instr
@@ -129,7 +65,7 @@ fn plain_instr(plain: PlainInstr) -> Instr
 }
 
 pub fn rest_of(alloc: Global, lead: Lead, bytes: &[u8]) -> Result<(Instr, &[u8]), Unread>
-    ensures { Gives (λ x. (put x.0, x.1.now)) result (rest_at lead bytes.now) }
+    ensures { Gives (λ x. (put x.0, x.1.now)) result ((completes lead).read bytes.now) }
 {
     match lead {
         Lead::Fixed(plain) => Ok((plain_instr(plain), bytes)),
@@ -138,19 +74,19 @@ pub fn rest_of(alloc: Global, lead: Lead, bytes: &[u8]) -> Result<(Instr, &[u8])
             Ok((indexed_instr(indexed, n), rest))
         }
         Lead::Load(kind) => {
-            let (at, rest) = memarg(bytes)?;
+            let (at, rest) = read_memarg(bytes)?;
             Ok((Instr::Load(kind, at), rest))
         }
         Lead::Store(kind) => {
-            let (at, rest) = memarg(bytes)?;
+            let (at, rest) = read_memarg(bytes)?;
             Ok((Instr::Store(kind, at), rest))
         }
         Lead::MemorySize => {
-            let rest = zero_byte(bytes)?;
+            let rest = this_byte(0x00, bytes)?;
             Ok((Instr::MemorySize, rest))
         }
         Lead::MemoryGrow => {
-            let rest = zero_byte(bytes)?;
+            let rest = this_byte(0x00, bytes)?;
             Ok((Instr::MemoryGrow, rest))
         }
         Lead::I32Const => {
@@ -170,7 +106,7 @@ pub fn rest_of(alloc: Global, lead: Lead, bytes: &[u8]) -> Result<(Instr, &[u8])
             Ok((Instr::BrIf(label), rest))
         }
         Lead::BrTable => {
-            let (labels, rest) = table(alloc, bytes)?;
+            let (labels, rest) = read_vector(alloc, MOST_TARGETS, bytes)?;
             let (label, rest) = number(rest)?;
             Ok((Instr::BrTable(labels, label), rest))
         }
@@ -181,46 +117,11 @@ pub fn rest_of(alloc: Global, lead: Lead, bytes: &[u8]) -> Result<(Instr, &[u8])
         }
         Lead::CallIndirect => {
             let (kind, rest) = number(bytes)?;
-            let rest = zero_byte(rest)?;
+            let rest = this_byte(0x00, rest)?;
             Ok((Instr::CallIndirect(kind), rest))
         }
         Lead::Block | Lead::Loop | Lead::If | Lead::Else | Lead::End => {
             Err(fault(bytes, DecodeKind::Form))
         }
-    }
-}
-
-fn is_float(byte: u8) -> bool {
-    matches!(byte, 0x2A | 0x2B | 0x38 | 0x39 | 0x43 | 0x44 | 0x5B..=0x66 | 0x8B..=0xA6 | 0xA8..=0xAB | 0xAE..=0xBF)
-}
-
-pub fn unknown(byte: u8) -> DecodeKind {
-    if is_float(byte) {
-        DecodeKind::Float
-    } else {
-        DecodeKind::Opcode
-    }
-}
-
-pub fn single(alloc: Global, bytes: &[u8]) -> Result<(Instr, &[u8]), Unread>
-    ensures { Gives (λ x. (put x.0, x.1.now)) result (single_at bytes.now) }
-{
-    let Some((first, rest)) = bytes.split_first() else {
-        return Err(fault(bytes, DecodeKind::Form));
-    };
-    match lead_of(*first) {
-        Some(lead) => rest_of(alloc, lead, rest),
-        None => Err(fault(bytes, unknown(*first))),
-    }
-}
-
-/// The instruction without bodies at the front (section 5.4), and the bytes after it.
-pub fn read_single(alloc: Global, bytes: &[u8]) -> Result<(Instr, &[u8]), Unread>
-    ensures found { IfOk result (λ x. (front : List ℕ) × IsSingle (put x.0) front × (bytes.now ≡ front ++ x.1.now)) }
-    ensures only { (make : Expression → Expression) (front rest : List ℕ) → IsSingle make front → bytes.now ≡ front ++ rest → Gives {Y = (Expression → Expression) × List ℕ} (λ x. (put x.0, x.1.now)) result (Some (make, rest)) }
-{
-    match single(alloc, bytes) {
-        Ok((instr, rest)) => Ok((instr, rest)),
-        Err(why) => Err(why),
     }
 }

@@ -1,0 +1,32 @@
+-- The rows of a table as a list by primary key, in which neighbours are places.
+use Rattle.std.specs.Prelude.{ℕ, List, [], ◌∷◌, Option, Some, None, if◌then◌else◌}
+use Rattle.std.specs.declared.cmp.Ordering.{Ordering}
+use Rattle.std.specs.Option.{option_or}
+use Rattle.std.specs.Ordering.{eq_by_cmp, nat_cmp, ordering_then}
+use Rattle.ante_pack.specs.declared.names.TableKey.{TableKey}
+use Rattle.ante_state.specs.declared.tables.RowKey.{RowKey}
+
+module _ (tables : TableKey → TableKey → Ordering) where
+  -- by table, and then by primary key
+  abbrev pub row_order : RowKey → RowKey → Ordering
+  row_order a b = ordering_then (tables a.table b.table) (nat_cmp a.primary b.primary)
+
+  module _ {V : Type 0} where
+    -- the rows of the table, in the order of their primary keys
+    abbrev pub rows_of : TableKey → List (RowKey × V) → List (ℕ × V)
+    rows_of table [] = []
+    rows_of table (e ∷ es) = if eq_by_cmp tables e.0.table table then (e.0.primary, e.1) ∷ rows_of table es else rows_of table es
+
+    -- an entry as a row of the table, if it is one
+    abbrev pub in_table : TableKey → Option (RowKey × V) → Option (ℕ × V)
+    in_table table None = None
+    in_table table (Some e) = if eq_by_cmp tables e.0.table table then Some (e.0.primary, e.1) else None
+
+-- the last of the entries
+abbrev pub last_entry : {K V : Type 0} → List (K × V) → Option (K × V)
+last_entry [] = None
+last_entry (e ∷ es) = option_or (last_entry es) (Some e)
+
+-- tables and rows keep no rule between them
+abbrev pub nothing : {M : Type 0} → M → Type 0
+nothing m = Unit {0}

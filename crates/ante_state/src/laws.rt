@@ -1,0 +1,37 @@
+// What contracts rest on, each as a function with an empty body: its contract is all that it is for.
+ghost use Rattle.std.specs.Prelude.{◌≡◌};
+ghost use Rattle.ante_state.specs.Orders.{name_order, table_order, row_order, level_order, link_order, recent_order};
+
+use crate::objects::{LinkKey, RecentKey};
+use crate::tables::RowKey;
+use ante_pack::{Level, Name, TableKey};
+
+/// Names are ordered as their numbers are.
+pub fn names_are_ordered()
+    ensures { ⟦<Name as Ord>⟧.cmp ≡ name_order }
+{}
+
+/// Tables are ordered by contract, then by scope, then by name.
+pub fn tables_are_ordered()
+    ensures { ⟦<TableKey as Ord>⟧.cmp ≡ table_order }
+{}
+
+/// Rows are ordered by table, and then by primary key.
+pub fn rows_are_ordered()
+    ensures { ⟦<RowKey as Ord>⟧.cmp ≡ row_order }
+{}
+
+/// Permissions are ordered by account, and then by name.
+pub fn levels_are_ordered()
+    ensures { ⟦<Level as Ord>⟧.cmp ≡ level_order }
+{}
+
+/// Links are ordered by account, then by contract, then by action.
+pub fn links_are_ordered()
+    ensures { ⟦<LinkKey as Ord>⟧.cmp ≡ link_order }
+{}
+
+/// Transactions that were run are ordered by the moment of expiration, and then by id.
+pub fn recent_are_ordered()
+    ensures { ⟦<RecentKey as Ord>⟧.cmp ≡ recent_order }
+{}

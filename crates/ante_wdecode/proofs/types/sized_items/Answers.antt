@@ -1,0 +1,18 @@
+use Rattle.std.proofs.lemmas.Result.{err_from_is_err_and}
+use Rattle.ante_wdecode.specs.Rules.{items_at}
+use Rattle.ante_wdecode.specs.Modules.{sized_type}
+use Rattle.ante_wdecode.proofs.Fronts.{goes_on, stops, is_done}
+use Rattle.ante_wdecode.proofs.types.sized_items.Goals as goal
+
+pub returns-in_err-item : goal.returns-in_err-item
+returns-in_err-item c =
+    let p = err_from_is_err_and c.from_residual.result c.from_residual.ensures.1 in
+    let read = (sized_type c.args.of_table).read in
+    rw (p.1, p.2) (stops c.in_err-item.field-0.0 read c.loop.items c.args.count c.loop.counter c.loop.rest.now (items_at read c.args.count c.args.bytes.now) c.loop-test.true c.in_err-item.ensures c.loop.invariant)
+
+pub loop-preserved : goal.loop-preserved
+loop-preserved c =
+    rw c.in_ok-push.ensures.ok (goes_on (sized_type c.args.of_table).read c.loop.items c.args.count c.loop.counter c.loop.rest.now c.in_ok-item.item c.in_ok-item.after.now _ c.loop-test.true c.in_ok-item.ensures c.loop.invariant)
+
+pub returns : goal.returns
+returns c = is_done (sized_type c.args.of_table).read c.loop.items c.args.count c.loop.counter c.loop.rest.now _ c.loop-test.false c.loop.invariant

@@ -1,0 +1,4 @@
+pub mod Answers
+pub mod Modules
+pub mod State
+pub mod Typing
