@@ -1,0 +1,263 @@
+-- No code raises the steps left, and a branch has lowered them: so a loop's turns are never too few.
+use Rattle.std.proofs.Common.{◌≡◌, ℕ, zero, suc, ◌<◌, ◌≤◌, Bool, true, false, List, length, drop, Option, None, Some, Result, Ok, Err, refl, arith}
+use Rattle.std.specs.Prelude.{◌==◌, not, nat_lt, nat_le, slice_get}
+use Rattle.ante_wmem.specs.Linear.{LinearMemory, may_grow}
+use Rattle.ante_wmem.specs.HostCalls.{Reply, value, nothing, exit, refused, step_limit, HostMeaning}
+use Rattle.ante_wtree.specs.declared.instructions.ValueKind.{ValueKind}
+use Rattle.ante_wtree.specs.declared.modules.FuncType.{FuncType}
+use Rattle.ante_wtree.specs.Expressions.{Expression, Over, Plain, Block, Loop, If, Br, BrIf, BrTable, Return, Call, CallIndirect, MemoryGrow}
+use Rattle.ante_wrun.specs.declared.ends.TrapKind.{TrapKind}
+use Rattle.ante_wrun.specs.Effects.{Effect, Next, Traps, effect, top, popped, low}
+use Rattle.ante_wrun.specs.Meaning.{FunctionInstance, Own, Given, Missing, Program, State, Outcome, Normal, Branch, Returned, Ended, Lacks, InHost, stack_of, on_stack, with_values, keep, result_of, grown_by, entered, arguments, all_fit, after_look, after_item, due, supplied, pay, seen, step, starts, and_then, of_block, of_loop, of_call, of_effect, turns, chosen, jump_unless, target, pay_pages, grow_if, grow, element, acts, does, with_operands, of_reply, host_supplied, call_host, of_function, no_frame, call_own, in_frame, call}
+
+module _ {W R : Type 0} where
+  abbrev pub Lowers : ℕ → Outcome W R → Type 0
+  Lowers n (Normal s) = s.left ≤ n
+  Lowers n (Branch k s) = s.left < n
+  Lowers n (Returned s) = s.left ≤ n
+  Lowers n (Ended e s) = Unit {0}
+  Lowers n (Lacks s) = Unit {0}
+  Lowers n (InHost f args a m s) = Unit {0}
+
+  pub lowers_more : (m n : ℕ) → m ≤ n → (o : Outcome W R) → Lowers m o → Lowers n o
+  lowers_more m n le (Normal s) h = omega arith
+  lowers_more m n le (Branch k s) h = omega arith
+  lowers_more m n le (Returned s) h = omega arith
+  lowers_more m n le (Ended e s) h = tt
+  lowers_more m n le (Lacks s) h = tt
+  lowers_more m n le (InHost f args a k s) h = tt
+
+  abbrev pub AllLower : (State W → Outcome W R) → Type 0
+  AllLower f = (s : State W) → Lowers s.left (f s)
+
+  pub rest_lowers : (f : State W → Outcome W R) → AllLower f → (n : ℕ) (t : State W) → t.left ≤ n → Lowers n (f t)
+  rest_lowers f h n t le = lowers_more t.left n le (f t) (h t)
+
+  -- ---- steps
+
+  supplied_lowers : (b : Bool) (n : ℕ) (s : State W) (go : State W → Outcome W R) → ((t : State W) → Lowers n (go t)) → Lowers n (supplied b s go)
+  supplied_lowers true n s go h = tt
+  supplied_lowers false n s go h = h (record s { outside = after_item s.outside })
+
+  pay_lowers : (n : ℕ) (s : State W) (go : State W → Outcome W R) → ((t : State W) → suc t.left ≡ n → Lowers n (go t)) → Lowers n (pay n s go)
+  pay_lowers zero s go h = tt
+  pay_lowers (suc n) s go h = supplied_lowers (s.outside.item_lacks s.outside.items) (suc n) s _ (λ t. h (record t { left = n; last = suc n }) refl)
+
+  paid_lowers : (first : State W → Outcome W R) → ((s : State W) → Lowers (suc s.left) (first s)) → (n : ℕ) (t : State W) → suc t.left ≡ n → Lowers n (first t)
+  paid_lowers first h n t e = lowers_more (suc t.left) n (omega arith) (first t) (h t)
+
+  seen_lowers : (d : Bool) (answer : Option ℕ) (first : State W → Outcome W R) → ((s : State W) → Lowers (suc s.left) (first s)) → (s : State W) → Lowers s.left (seen d answer s first)
+  seen_lowers false answer first h s = pay_lowers s.left s first (paid_lowers first h s.left)
+  seen_lowers true None first h s = pay_lowers s.left (record s { outside = after_look s.outside }) first (paid_lowers first h s.left)
+  seen_lowers true (Some at) first h s = tt
+
+  step_lowers : (first : State W → Outcome W R) → ((s : State W) → Lowers (suc s.left) (first s)) → AllLower (λ s. step s first)
+  step_lowers first h s = seen_lowers (due s.left s.last) (s.outside.look_answer s.outside.looks) first h s
+
+  pub starts_lowers : (code : Expression) (first : State W → Outcome W R) → ((s : State W) → Lowers (suc s.left) (first s)) → AllLower (starts code first)
+  starts_lowers Over first h s = omega arith
+  starts_lowers (Plain i rest) first h s = step_lowers first h s
+  starts_lowers (Block kind body rest) first h s = step_lowers first h s
+  starts_lowers (Loop kind body rest) first h s = step_lowers first h s
+  starts_lowers (If kind one two rest) first h s = step_lowers first h s
+  starts_lowers (Br n rest) first h s = step_lowers first h s
+  starts_lowers (BrIf n rest) first h s = step_lowers first h s
+  starts_lowers (BrTable ns n rest) first h s = step_lowers first h s
+  starts_lowers (Return rest) first h s = step_lowers first h s
+  starts_lowers (Call f rest) first h s = step_lowers first h s
+  starts_lowers (CallIndirect t rest) first h s = step_lowers first h s
+  starts_lowers (MemoryGrow rest) first h s = step_lowers first h s
+
+  -- ---- what follows an outcome
+
+  and_then_lowers : (n : ℕ) (o : Outcome W R) (go : State W → Outcome W R) → Lowers n o → ((t : State W) → t.left ≤ n → Lowers n (go t)) → Lowers n (and_then o go)
+  and_then_lowers n (Normal s) go h g = g s h
+  and_then_lowers n (Branch k s) go h g = h
+  and_then_lowers n (Returned s) go h g = h
+  and_then_lowers n (Ended e s) go h g = tt
+  and_then_lowers n (Lacks s) go h g = tt
+  and_then_lowers n (InHost f args a k s) go h g = tt
+
+  of_block_lowers : (kind : Option ValueKind) (height n : ℕ) (o : Outcome W R) → Lowers n o → Lowers n (of_block kind height o)
+  of_block_lowers kind height n (Normal s) h = h
+  of_block_lowers kind height n (Branch zero s) h = omega arith
+  of_block_lowers kind height n (Branch (suc k) s) h = h
+  of_block_lowers kind height n (Returned s) h = h
+  of_block_lowers kind height n (Ended e s) h = tt
+  of_block_lowers kind height n (Lacks s) h = tt
+  of_block_lowers kind height n (InHost f args a k s) h = tt
+
+  of_loop_lowers : (height n : ℕ) (o : Outcome W R) (go : State W → Outcome W R) → Lowers n o → ((t : State W) → t.left ≤ n → Lowers n (go t)) → Lowers n (of_loop height o go)
+  of_loop_lowers height n (Normal s) go h g = h
+  of_loop_lowers height n (Branch zero s) go h g = g (on_stack s (keep height (stack_of s))) (omega arith)
+  of_loop_lowers height n (Branch (suc k) s) go h g = h
+  of_loop_lowers height n (Returned s) go h g = h
+  of_loop_lowers height n (Ended e s) go h g = tt
+  of_loop_lowers height n (Lacks s) go h g = tt
+  of_loop_lowers height n (InHost f args a k s) go h g = tt
+
+  of_call_lowers : (kind : Option ValueKind) (locals stack : List ℕ) (n : ℕ) (o : Outcome W R) → Lowers n o → Lowers n (of_call kind locals stack o)
+  of_call_lowers kind locals stack n (Normal s) h = h
+  of_call_lowers kind locals stack n (Branch k s) h = omega arith
+  of_call_lowers kind locals stack n (Returned s) h = h
+  of_call_lowers kind locals stack n (Ended e s) h = tt
+  of_call_lowers kind locals stack n (Lacks s) h = tt
+  of_call_lowers kind locals stack n (InHost f args a k s) h = tt
+
+  of_effect_lowers : (e : Effect) (s : State W) (n : ℕ) (go : State W → Outcome W R) → s.left ≤ n → ((t : State W) → t.left ≤ n → Lowers n (go t)) → Lowers n (of_effect e s go)
+  of_effect_lowers (Next v) s n go le g = g (with_values s v) le
+  of_effect_lowers (Traps kind) s n go le g = tt
+
+  turns_lowers : (m : ℕ) (body : State W → Outcome W R) (height : ℕ) → AllLower body → AllLower (turns m body height)
+  turns_lowers zero body height h s = tt
+  turns_lowers (suc m) body height h s =
+      of_loop_lowers height s.left (body s) (turns m body height) (h s) (λ t le. lowers_more t.left s.left le (turns m body height t) (turns_lowers m body height h t))
+
+  chosen_lowers : (b : Bool) (one two : State W → Outcome W R) → AllLower one → AllLower two → AllLower (chosen b one two)
+  chosen_lowers true one two g h s = h s
+  chosen_lowers false one two g h s = g s
+
+  target_lowers : (r : Result ℕ TrapKind) (calls : ℕ → State W → Outcome W R) → ((f : ℕ) → AllLower (calls f)) → AllLower (target r calls)
+  target_lowers (Ok f) calls c s = c f s
+  target_lowers (Err kind) calls c s = tt
+
+module _ (W R : Type 0) where
+  jump_unless_lowers : (b : Bool) (n : ℕ) (s : State W) → Lowers {W = W} {R = R} (suc s.left) (jump_unless b n s)
+  jump_unless_lowers true n s = omega arith
+  jump_unless_lowers false n s = omega arith
+
+  pay_pages_lowers : (b : Bool) (pages : ℕ) (grown s : State W) → Lowers {W = W} {R = R} s.left (pay_pages b pages grown s)
+  pay_pages_lowers true pages grown s = omega arith
+  pay_pages_lowers false pages grown s = tt
+
+  grow_if_lowers : (b : Bool) (pages : ℕ) → AllLower {W = W} {R = R} (grow_if b pages)
+  grow_if_lowers true pages s = pay_pages_lowers (nat_le pages s.left) pages (grown_by pages s) s
+  grow_if_lowers false pages s = omega arith
+
+  grow_lowers : (pages : ℕ) → AllLower {W = W} {R = R} (grow pages)
+  grow_lowers pages s = grow_if_lowers (may_grow s.values.memory pages) pages s
+
+module _ {W R : Type 0} (program : Program) (calls : ℕ → State W → Outcome W R) (c : (f : ℕ) → AllLower (calls f)) where
+  rest_of : (code : Expression) → AllLower (starts code (acts program calls code)) → (n : ℕ) (t : State W) → t.left ≤ n → Lowers n (starts code (acts program calls code) t)
+  rest_of code h n t le = rest_lowers (starts code (acts program calls code)) h n t le
+
+  pub acts_lowers : (code : Expression) (s : State W) → Lowers (suc s.left) (acts program calls code s)
+  acts_lowers Over s = omega arith
+  acts_lowers (Plain i rest) s =
+      let r = starts_lowers rest (acts program calls rest) (acts_lowers rest) in
+      of_effect_lowers (effect i s.values) s (suc s.left) _ (omega arith) (rest_of rest r (suc s.left))
+  acts_lowers (Block kind body rest) s =
+      let r = starts_lowers rest (acts program calls rest) (acts_lowers rest) in
+      let b = starts_lowers body (acts program calls body) (acts_lowers body) in
+      and_then_lowers (suc s.left) _ _ (of_block_lowers kind (length (stack_of s)) (suc s.left) _ (rest_of body b (suc s.left) s (omega arith))) (rest_of rest r (suc s.left))
+  acts_lowers (Loop kind body rest) s =
+      let r = starts_lowers rest (acts program calls rest) (acts_lowers rest) in
+      let b = starts_lowers body (acts program calls body) (acts_lowers body) in
+      and_then_lowers (suc s.left) _ _ (rest_lowers _ (turns_lowers (suc s.left) _ (length (stack_of s)) b) (suc s.left) s (omega arith)) (rest_of rest r (suc s.left))
+  acts_lowers (If kind one two rest) s =
+      let r = starts_lowers rest (acts program calls rest) (acts_lowers rest) in
+      let a = starts_lowers one (acts program calls one) (acts_lowers one) in
+      let b = starts_lowers two (acts program calls two) (acts_lowers two) in
+      let t = on_stack s (popped (stack_of s)) in
+      and_then_lowers (suc s.left) _ _
+      (of_block_lowers kind (length (stack_of t)) (suc s.left) _ (rest_lowers _ (chosen_lowers (low (top (stack_of s)) == 0) _ _ a b) (suc s.left) t (omega arith)))
+      (rest_of rest r (suc s.left))
+  acts_lowers (Br n rest) s = omega arith
+  acts_lowers (BrIf n rest) s =
+      let r = starts_lowers rest (acts program calls rest) (acts_lowers rest) in
+      and_then_lowers (suc s.left) _ _ (jump_unless_lowers W R (low (top (stack_of s)) == 0) n (on_stack s (popped (stack_of s)))) (rest_of rest r (suc s.left))
+  acts_lowers (BrTable ns n rest) s = omega arith
+  acts_lowers (Return rest) s = omega arith
+  acts_lowers (Call f rest) s =
+      let r = starts_lowers rest (acts program calls rest) (acts_lowers rest) in
+      and_then_lowers (suc s.left) _ _ (rest_lowers (calls f) (c f) (suc s.left) s (omega arith)) (rest_of rest r (suc s.left))
+  acts_lowers (CallIndirect t rest) s =
+      let r = starts_lowers rest (acts program calls rest) (acts_lowers rest) in
+      and_then_lowers (suc s.left) _ _
+      (rest_lowers _ (target_lowers (element program t (low (top (stack_of s)))) calls c) (suc s.left) (on_stack s (popped (stack_of s))) (omega arith))
+      (rest_of rest r (suc s.left))
+  acts_lowers (MemoryGrow rest) s =
+      let r = starts_lowers rest (acts program calls rest) (acts_lowers rest) in
+      and_then_lowers (suc s.left) _ _
+      (rest_lowers _ (grow_lowers W R (low (top (stack_of s)))) (suc s.left) (on_stack s (popped (stack_of s))) (omega arith))
+      (rest_of rest r (suc s.left))
+
+  pub does_lowers : (code : Expression) → AllLower (does program calls code)
+  does_lowers code = starts_lowers code (acts program calls code) (acts_lowers code)
+
+module _ {W R : Type 0} (host : HostMeaning W R) where
+  abbrev pub HostFalls : Type 0
+  HostFalls = (w : W) (number : ℕ) (args : List ℕ) (memory : LinearMemory) (left : ℕ) → (host w number args memory left).left ≤ left
+
+module _ {W R : Type 0} where
+  of_reply_lowers : (number : ℕ) (args below : List ℕ) (reply : Reply W R) (left : ℕ) (s : State W) → left ≤ s.left → Lowers s.left (of_reply number args below reply left s)
+  of_reply_lowers number args below (value n w m) left s le = le
+  of_reply_lowers number args below (nothing w m) left s le = le
+  of_reply_lowers number args below (exit w m) left s le = tt
+  of_reply_lowers number args below (refused r) left s le = tt
+  of_reply_lowers number args below step_limit left s le = tt
+
+  host_supplied_lowers : (b : Bool) (number : ℕ) (args : List ℕ) (go : Outcome W R) (s : State W) → Lowers s.left go → Lowers s.left (host_supplied b number args go s)
+  host_supplied_lowers true number args go s h = tt
+  host_supplied_lowers false number args go s h = h
+
+  with_operands_lowers : (b : Bool) (go : State W → Outcome W R) → AllLower go → AllLower (with_operands b go)
+  with_operands_lowers true go h s = tt
+  with_operands_lowers false go h s = h s
+
+  call_host_lowers : (host : HostMeaning W R) → HostFalls host → (kind : FuncType) (number : ℕ) → AllLower (call_host host kind number)
+  call_host_lowers host falls kind number s =
+      let args = arguments (length kind.params) (stack_of s) in
+      let outcome = host s.world number args s.values.memory s.left in
+      host_supplied_lowers (s.outside.call_lacks s.outside.calls) number args _ s
+      (of_reply_lowers number args (drop (length kind.params) (stack_of s)) outcome.reply outcome.left s (falls s.world number args s.values.memory s.left))
+
+  of_function_lowers : (host : HostMeaning W R) → HostFalls host → (own : FuncType → ℕ → Expression → State W → Outcome W R) → ((kind : FuncType) (locals : ℕ) (body : Expression) → AllLower (own kind locals body)) → (f : Option FunctionInstance) → AllLower (of_function host own f)
+  of_function_lowers host falls own h (Some (Own kind locals body)) s = h kind locals body s
+  of_function_lowers host falls own h (Some (Given kind number)) s =
+      with_operands_lowers (not (all_fit kind.params (arguments (length kind.params) (stack_of s)))) (call_host host kind number) (call_host_lowers host falls kind number) s
+  of_function_lowers host falls own h (Some Missing) s = tt
+  of_function_lowers host falls own h None s = tt
+
+  call_own_lowers : (runs : Expression → State W → Outcome W R) → ((code : Expression) → AllLower (runs code)) → (kind : FuncType) (locals : ℕ) (body : Expression) → AllLower (call_own runs kind locals body)
+  call_own_lowers runs h kind locals body s = of_call_lowers (result_of kind.results) s.values.locals (drop (length kind.params) (stack_of s)) s.left _ (h body (entered kind locals s))
+
+  in_frame_lowers : (runs : Expression → State W → Outcome W R) → ((code : Expression) → AllLower (runs code)) → (kind : FuncType) (locals : ℕ) (body : Expression) → AllLower (in_frame runs kind locals body)
+  in_frame_lowers runs h kind locals body s =
+      with_operands_lowers (nat_lt (length (stack_of s)) (length kind.params)) (call_own runs kind locals body) (call_own_lowers runs h kind locals body) s
+
+  pub call_lowers : (host : HostMeaning W R) → HostFalls host → (program : Program) (free f : ℕ) → AllLower (call host program free f)
+  call_lowers host falls program zero f s = of_function_lowers host falls no_frame (λ kind locals body s. tt) (slice_get program.functions f) s
+  call_lowers host falls program (suc free) f s =
+      of_function_lowers host falls (in_frame (does program (call host program free)))
+      (in_frame_lowers (does program (call host program free)) (does_lowers program (call host program free) (call_lowers host falls program free)))
+      (slice_get program.functions f) s
+
+  -- ---- a loop's turns
+
+  pub turns_enough : (m n : ℕ) (body : State W → Outcome W R) (height : ℕ) → AllLower body → (s : State W) → s.left < m → s.left < n → turns m body height s ≡ turns n body height s
+  turns_enough zero n body height h s lt gt = absurd (omega arith)
+  turns_enough (suc m) zero body height h s lt gt = absurd (omega arith)
+  turns_enough (suc m) (suc n) body height h s lt gt = turn (λ t a b. turns_enough m n body height h t a b) (body s) (h s)
+    where
+      turn : ((t : State W) → t.left < m → t.left < n → turns m body height t ≡ turns n body height t) → (o : Outcome W R) → Lowers s.left o → of_loop height o (turns m body height) ≡ of_loop height o (turns n body height)
+      turn next (Normal t) l = refl
+      turn next (Branch zero t) l = next (on_stack t (keep height (stack_of t))) (omega arith) (omega arith)
+      turn next (Branch (suc k) t) l = refl
+      turn next (Returned t) l = refl
+      turn next (Ended e t) l = refl
+      turn next (Lacks t) l = refl
+      turn next (InHost f args a k t) l = refl
+
+  -- a loop's first turn, with the later ones counted anew
+  pub turns_open : (n : ℕ) (body : State W → Outcome W R) (height : ℕ) → AllLower body → (s : State W) → s.left ≡ n → turns (suc n) body height s ≡ of_loop height (body s) (λ t. turns (suc t.left) body height t)
+  turns_open n body height h s e = turn (body s) (h s)
+    where
+      turn : (o : Outcome W R) → Lowers s.left o → of_loop height o (turns n body height) ≡ of_loop height o (λ t. turns (suc t.left) body height t)
+      turn (Normal t) l = refl
+      turn (Branch zero t) l = turns_enough n (suc t.left) body height h (on_stack t (keep height (stack_of t))) (omega arith) (omega arith)
+      turn (Branch (suc k) t) l = refl
+      turn (Returned t) l = refl
+      turn (Ended e t) l = refl
+      turn (Lacks t) l = refl
+      turn (InHost f args a k t) l = refl

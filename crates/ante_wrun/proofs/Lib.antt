@@ -1,0 +1,6 @@
+pub mod Falls
+pub mod Regions
+pub mod Signs
+pub mod Bodies
+pub mod Calls
+pub mod Turning

@@ -1,0 +1,118 @@
+use Rattle.std.proofs.Common.{◌≡◌, ◌∷◌, false, length, refl, sym, ap, subst, ◌∙◌, arith}
+use Rattle.std.specs.Prelude.{◌==◌, slice_index_or}
+use Rattle.std.proofs.lemmas.Bool.{eqb-true}
+use Rattle.ante_wtree.specs.Expressions.{expression_of}
+use Rattle.ante_wrun.specs.declared.ends.RunEnd.TheVariants as end
+use Rattle.ante_wrun.specs.declared.thread.Frame.TheVariants as frame
+use Rattle.ante_wrun.specs.Effects.{effect, low, top, popped}
+use Rattle.ante_wrun.specs.Meaning.{Branch, and_then, of_effect, jump_unless, on_stack, acts, does, call}
+use Rattle.ante_wrun.specs.Machine.{state_of, values_of, rest_of, under, whole}
+use Rattle.ante_wrun.specs.Control.{program_of, Leads}
+use Rattle.ante_wrun.proofs.Bodies.{again}
+use Rattle.ante_wrun.proofs.Calls.{if_ok, ended, traps, conditional}
+use Rattle.ante_wrun.proofs.control.act.Goals as goal
+
+pub returns-in-Some-clause-leads : goal.returns-in-Some-clause-leads
+returns-in-Some-clause-leads g c = λ w last outside.
+    let P = program_of c.args.functions.now in
+    let t = c.args.thread.now in
+    let s = state_of t.state w c.args.left.now last outside in
+    let m = under g.H.Host.meaning P t.free t.state.values.below in
+    let e = ap (λ x. whole g.H.Host.meaning P t (acts P (call g.H.Host.meaning P t.free) x s)) (c.in-Plain.ensures (expression_of t.code.now)) in (
+      s,
+      e ∙ ap (λ x. m t.frames (of_effect x s (rest_of g.H.Host.meaning P t))) (traps (effect c.in-Plain.op (values_of t.state)) c.in_ok-plain-in-Plain.field-0 c.in-Some.kind t.state c.plain.new.state c.in_ok-plain-in-Plain.ensures.effect c.in-Some.is)
+          ∙ ended g.H.Host.meaning P t.free t.state.values.below t.frames (end.Trap c.in-Some.kind) s,
+      refl,
+      refl,
+      refl,
+    )
+
+pub returns-in_ok-push-in-Block-clause-leads : goal.returns-in_ok-push-in-Block-clause-leads
+returns-in_ok-push-in-Block-clause-leads g c = λ w last outside.
+    let P = program_of c.args.functions.now in
+    let t = c.args.thread.now in
+    let s = state_of t.state w c.args.left.now last outside in
+    let m = under g.H.Host.meaning P t.free t.state.values.below in
+    let e = ap (λ x. whole g.H.Host.meaning P t (acts P (call g.H.Host.meaning P t.free) x s)) (c.in-Block.ensures (expression_of t.code.now)) in
+    e ∙ ap (λ h. m (frame.Block c.in-Block.kind h t.code ∷ t.frames) (does P (call g.H.Host.meaning P t.free) (expression_of c.in-Block.body.now) s)) (sym c.height-height.ensures)
+    ∙ ap (λ fs. m fs (does P (call g.H.Host.meaning P t.free) (expression_of c.in-Block.body.now) s)) (sym c.in_ok-push-in-Block.ensures.ok)
+
+pub returns-in_ok-push-in-Loop-clause-leads : goal.returns-in_ok-push-in-Loop-clause-leads
+returns-in_ok-push-in-Loop-clause-leads g c = λ w last outside.
+    let P = program_of c.args.functions.now in
+    let t = c.args.thread.now in
+    let s = state_of t.state w c.args.left.now last outside in
+    let m = under g.H.Host.meaning P t.free t.state.values.below in
+    let e = ap (λ x. whole g.H.Host.meaning P t (acts P (call g.H.Host.meaning P t.free) x s)) (c.in-Loop.ensures (expression_of t.code.now)) in
+    e ∙ again g.H.Host.meaning P w c.args.left.now last outside g.met.H.Host.falls t.free t.state.values.below t.frames (length t.state.values.stack) c.in-Loop.body t.code s
+    ∙ ap (λ h. m (frame.Loop h c.in-Loop.body t.code ∷ t.frames) (does P (call g.H.Host.meaning P t.free) (expression_of c.in-Loop.body.now) s)) (sym c.height-height-in-Loop.ensures)
+    ∙ ap (λ fs. m fs (does P (call g.H.Host.meaning P t.free) (expression_of c.in-Loop.body.now) s)) (sym c.in_ok-push-in-Loop.ensures.ok)
+
+pub returns-in_ok-push-in-If-clause-leads : goal.returns-in_ok-push-in-If-clause-leads
+returns-in_ok-push-in-If-clause-leads g c = λ w last outside.
+    let P = program_of c.args.functions.now in
+    let t = c.args.thread.now in
+    let s = state_of t.state w c.args.left.now last outside in
+    let m = under g.H.Host.meaning P t.free t.state.values.below in
+    let e = ap (λ x. whole g.H.Host.meaning P t (acts P (call g.H.Host.meaning P t.free) x s)) (c.in-If.ensures (expression_of t.code.now)) in
+    let n : low (top t.state.values.stack) ≡ c.low-test.result = sym (c.low-test.ensures ∙ ap low c.pop.ensures.value) in
+    e ∙ conditional g.H.Host.meaning P w c.args.left.now last outside t.free t.frames c.push-in-If.new.self t.state c.in-If.kind c.height-height-in-If.result t.code c.in-If.one c.in-If.two c.chosen-thread.result
+    (low (top t.state.values.stack) == 0) (c.low-test.result == 0) c.pop.new.self (ap (λ k. k == 0) n) c.chosen-thread.ensures c.pop.ensures.rest c.height-height-in-If.ensures c.in_ok-push-in-If.ensures.ok
+
+pub returns-else-low-eq0-clause-leads : goal.returns-else-low-eq0-clause-leads
+returns-else-low-eq0-clause-leads g c = λ w last outside.
+    let P = program_of c.args.functions.now in
+    let t = c.args.thread.now in
+    let s = state_of t.state w c.args.left.now last outside in
+    let m = under g.H.Host.meaning P t.free t.state.values.below in
+    let e = ap (λ x. whole g.H.Host.meaning P t (acts P (call g.H.Host.meaning P t.free) x s)) (c.in-BrIf.ensures (expression_of t.code.now)) in
+    let n : low (top t.state.values.stack) ≡ c.low.result = sym (c.low.ensures ∙ ap low c.pop-in-BrIf.ensures.value) in
+    let taken : (low (top t.state.values.stack) == 0) ≡ false = ap (λ k. k == 0) n ∙ grind (arith, eqb-true, c.if-low-eq0.false) in
+    e ∙ ap (λ b. whole g.H.Host.meaning P t (and_then (jump_unless b c.in-BrIf.depth (on_stack s (popped t.state.values.stack))) (rest_of g.H.Host.meaning P t))) taken
+    ∙ ap (λ v. under g.H.Host.meaning P t.free v.below t.frames (Branch c.in-BrIf.depth (state_of (record t.state { values = v }) w c.args.left.now last outside))) (sym c.pop-in-BrIf.ensures.rest)
+    ∙ c.branch-thread-in-BrIf.ensures P w c.args.left.now last outside
+
+pub returns-in-BrTable-clause-leads : goal.returns-in-BrTable-clause-leads
+returns-in-BrTable-clause-leads g c = λ w last outside.
+    let P = program_of c.args.functions.now in
+    let t = c.args.thread.now in
+    let s = state_of t.state w c.args.left.now last outside in
+    let m = under g.H.Host.meaning P t.free t.state.values.below in
+    let e = ap (λ x. whole g.H.Host.meaning P t (acts P (call g.H.Host.meaning P t.free) x s)) (c.in-BrTable.ensures (expression_of t.code.now)) in
+    let n : low (top t.state.values.stack) ≡ c.low-at.result = sym (c.low-at.ensures ∙ ap low c.pop-in-BrTable.ensures.value) in
+    e ∙ ap (λ k. m t.frames (Branch k (on_stack s (popped t.state.values.stack)))) (ap (λ at. slice_index_or c.in-BrTable.labels.now at c.in-BrTable.last) n ∙ sym c.label-depth.ensures)
+    ∙ ap (λ v. under g.H.Host.meaning P t.free v.below t.frames (Branch c.label-depth.result (state_of (record t.state { values = v }) w c.args.left.now last outside))) (sym c.pop-in-BrTable.ensures.rest)
+    ∙ c.branch-thread-in-BrTable.ensures P w c.args.left.now last outside
+
+pub returns-in-Call-clause-leads : goal.returns-in-Call-clause-leads
+returns-in-Call-clause-leads g c =
+    let P = program_of c.args.functions.now in
+    let t = c.args.thread.now in
+    if_ok c.call_function.result _ _
+    (λ next h w last outside.
+    subst (λ o. Leads g.H.Host.meaning P o next c.call_function.new.thread w c.args.left.now last outside)
+    (sym (ap (λ x. whole g.H.Host.meaning P t (acts P (call g.H.Host.meaning P t.free) x (state_of t.state w c.args.left.now last outside))) (c.in-Call.ensures (expression_of t.code.now))))
+    (h w c.args.left.now last outside))
+    c.call_function.ensures.leads
+
+pub returns-in-CallIndirect-clause-leads : goal.returns-in-CallIndirect-clause-leads
+returns-in-CallIndirect-clause-leads g c =
+    let P = program_of c.args.functions.now in
+    let t = c.args.thread.now in
+    if_ok c.call_indirect.result _ _
+    (λ next h w last outside.
+    subst (λ o. Leads g.H.Host.meaning P o next c.call_indirect.new.thread w c.args.left.now last outside)
+    (sym (ap (λ x. whole g.H.Host.meaning P t (acts P (call g.H.Host.meaning P t.free) x (state_of t.state w c.args.left.now last outside))) (c.in-CallIndirect.ensures (expression_of t.code.now))))
+    (h w c.args.left.now last outside))
+    c.call_indirect.ensures
+
+pub returns-in-MemoryGrow-clause-leads : goal.returns-in-MemoryGrow-clause-leads
+returns-in-MemoryGrow-clause-leads g c =
+    let P = program_of c.args.functions.now in
+    let t = c.args.thread.now in
+    if_ok c.grow.result _ _
+    (λ next h w last outside.
+    subst (λ o. Leads g.H.Host.meaning P o next c.grow.new.thread w c.grow.new.left last outside)
+    (sym (ap (λ x. whole g.H.Host.meaning P t (acts P (call g.H.Host.meaning P t.free) x (state_of t.state w c.args.left.now last outside))) (c.in-MemoryGrow.ensures (expression_of t.code.now))))
+    (h P w last outside))
+    c.grow.ensures.leads

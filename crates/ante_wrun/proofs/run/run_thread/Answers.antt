@@ -1,0 +1,53 @@
+use Rattle.std.proofs.Common.{◌≡◌, Ok, ap, subst}
+use Rattle.ante_wrun.specs.Meaning.{Outside, Normal}
+use Rattle.ante_wrun.specs.Machine.{state_of, going}
+use Rattle.ante_wrun.specs.Control.{program_of}
+use Rattle.ante_wrun.specs.Runs.{Begins, past, ByEvents, Wanting, Ends, Lacking}
+use Rattle.ante_wrun.specs.Turns.{TurnLeads}
+use Rattle.ante_wrun.proofs.Turning.{more_events}
+use Rattle.ante_wrun.proofs.run.run_thread.Goals as goal
+
+pub turns-preserved : goal.turns-preserved
+turns-preserved g c =
+    let P = program_of c.args.functions.now in (
+      more_events g.P.Stop.may c.args.stop.now c.turns.stop c.turn.new.stop
+          (λ v. going g.H.Host.meaning P c.args.thread.now (state_of c.args.thread.now.state c.args.host.now c.args.left.now c.args.last.now v))
+          (λ u. going g.H.Host.meaning P c.turns.thread (state_of c.turns.thread.state c.turns.host c.turns.left c.turns.last u))
+          (λ o u. o ≡ going g.H.Host.meaning P c.turn.new.thread (state_of c.turn.new.thread.state c.turn.new.host c.turn.new.left c.turn.new.last u))
+          c.turns.invariant.0
+          (subst (λ p. ByEvents g.P.Stop.may c.turns.stop c.turn.new.stop (λ events. (u : Outside) → Begins u events →
+          TurnLeads g.H.Host.meaning g.H.Host.stands P (going g.H.Host.meaning P c.turns.thread (state_of c.turns.thread.state c.turns.host c.turns.left c.turns.last u)) (Ok p) c.turn.new.thread c.turn.new.host c.turn.new.left c.turn.new.last (past u events))) c.in-Ok-Go.field-0-is c.in-Ok-Go.ensures.leads),
+      c.in-Ok-Go.ensures.allowed (ap Ok c.in-Ok-Go.field-0-is),
+    )
+
+pub returns-in-Ok-Over-clause-leads : goal.returns-in-Ok-Over-clause-leads
+returns-in-Ok-Over-clause-leads g c =
+    let P = program_of c.args.functions.now in
+    more_events g.P.Stop.may c.args.stop.now c.turns.stop c.turn.new.stop
+    (λ v. going g.H.Host.meaning P c.args.thread.now (state_of c.args.thread.now.state c.args.host.now c.args.left.now c.args.last.now v))
+    (λ u. going g.H.Host.meaning P c.turns.thread (state_of c.turns.thread.state c.turns.host c.turns.left c.turns.last u))
+    (λ o u. o ≡ Normal (state_of c.turn.new.thread.state c.turn.new.host c.turn.new.left c.turn.new.last u))
+    c.turns.invariant.0
+    (subst (λ p. ByEvents g.P.Stop.may c.turns.stop c.turn.new.stop (λ events. (u : Outside) → Begins u events →
+    TurnLeads g.H.Host.meaning g.H.Host.stands P (going g.H.Host.meaning P c.turns.thread (state_of c.turns.thread.state c.turns.host c.turns.left c.turns.last u)) (Ok p) c.turn.new.thread c.turn.new.host c.turn.new.left c.turn.new.last (past u events))) c.in-Ok-Over.field-0-is c.in-Ok-Over.ensures.leads)
+
+pub returns-in-Ok-Ended-clause-leads : goal.returns-in-Ok-Ended-clause-leads
+returns-in-Ok-Ended-clause-leads g c =
+    let P = program_of c.args.functions.now in
+    more_events g.P.Stop.may c.args.stop.now c.turns.stop c.turn.new.stop
+    (λ v. going g.H.Host.meaning P c.args.thread.now (state_of c.args.thread.now.state c.args.host.now c.args.left.now c.args.last.now v))
+    (λ u. going g.H.Host.meaning P c.turns.thread (state_of c.turns.thread.state c.turns.host c.turns.left c.turns.last u))
+    (λ o u. Ends g.H.Host.stands c.in-Ok-Ended.end c.turn.new.host c.turn.new.left u o)
+    c.turns.invariant.0
+    (subst (λ p. ByEvents g.P.Stop.may c.turns.stop c.turn.new.stop (λ events. (u : Outside) → Begins u events →
+    TurnLeads g.H.Host.meaning g.H.Host.stands P (going g.H.Host.meaning P c.turns.thread (state_of c.turns.thread.state c.turns.host c.turns.left c.turns.last u)) (Ok p) c.turn.new.thread c.turn.new.host c.turn.new.left c.turn.new.last (past u events))) c.in-Ok-Ended.field-0-is c.in-Ok-Ended.ensures.leads)
+
+pub returns-in-Err-clause-leads : goal.returns-in-Err-clause-leads
+returns-in-Err-clause-leads g c =
+    let P = program_of c.args.functions.now in
+    more_events g.P.Stop.may c.args.stop.now c.turns.stop c.turn.new.stop
+    (λ v. going g.H.Host.meaning P c.args.thread.now (state_of c.args.thread.now.state c.args.host.now c.args.left.now c.args.last.now v))
+    (λ u. going g.H.Host.meaning P c.turns.thread (state_of c.turns.thread.state c.turns.host c.turns.left c.turns.last u))
+    (λ o u. Wanting u → Lacking g.H.Host.stands c.turn.new.host c.turn.new.left u o)
+    c.turns.invariant.0
+    c.in-Err.ensures.leads

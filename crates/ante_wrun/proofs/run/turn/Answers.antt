@@ -1,0 +1,93 @@
+use Rattle.std.proofs.Common.{◌≡◌, ◌<◌, [], ◌∷◌, length, refl, sym, subst, ◌∙◌, arith}
+use Rattle.ante_wrun.specs.declared.ends.RunEnd.TheVariants as end
+use Rattle.ante_wrun.specs.Effects.{popped}
+use Rattle.ante_wrun.specs.Meaning.{after_call, arguments}
+use Rattle.ante_wrun.specs.Machine.{state_of, whole, going}
+use Rattle.ante_wrun.specs.Control.{program_of, Leads}
+use Rattle.ante_wrun.specs.Runs.{CallSupplied, Wanting, Ends, Lacking}
+use Rattle.ante_wrun.proofs.Turning.{first_of, turn_by, limit_by, cut_by, lack_by, stops_ends, some_outside}
+use Rattle.ante_wrun.proofs.run.turn.Goals as goal
+
+pub returns-in-StepLimit-clause-leads : goal.returns-in-StepLimit-clause-leads
+returns-in-StepLimit-clause-leads g c =
+    let P = program_of c.args.functions.now in
+    limit_by g.H.Host.meaning g.H.Host.stands P g.P.Stop.may c.args.stop.now c.pay.new.stop c.args.host.now c.args.thread.now c.next_instr.new.thread c.in-Some.instr c.args.left.now c.args.last.now (λ v. c.in-Some.ensures P c.args.host.now c.args.left.now c.args.last.now v) c.pay.new.left c.in-StepLimit.ensures.steps.0 c.in-StepLimit.ensures.steps.1 c.in-StepLimit.ensures.look
+
+pub returns-in-Cut-clause-leads : goal.returns-in-Cut-clause-leads
+returns-in-Cut-clause-leads g c =
+    let P = program_of c.args.functions.now in
+    cut_by g.H.Host.meaning g.H.Host.stands P g.P.Stop.may c.args.stop.now c.pay.new.stop c.args.host.now c.args.thread.now c.next_instr.new.thread c.in-Some.instr c.args.left.now c.args.last.now (λ v. c.in-Some.ensures P c.args.host.now c.args.left.now c.args.last.now v) c.pay.new.left c.in-Cut.at c.in-Cut.ensures.steps.0 c.in-Cut.ensures.steps.1 c.in-Cut.ensures.look
+
+pub returns-in-None-clause-leads : goal.returns-in-None-clause-leads
+returns-in-None-clause-leads g c =
+    let P = program_of c.args.functions.now in
+    ([], refl, λ v b. c.in-None.ensures P c.args.host.now c.args.left.now c.args.last.now v)
+
+pub returns-in-Ok-Go-clause-leads : goal.returns-in-Ok-Go-clause-leads
+returns-in-Ok-Go-clause-leads g c =
+    let P = program_of c.args.functions.now in
+    turn_by g.H.Host.meaning g.H.Host.stands P g.P.Stop.may c.args.stop.now c.pay.new.stop c.args.host.now c.args.thread.now c.next_instr.new.thread c.in-Some.instr c.args.left.now c.args.last.now (λ v. c.in-Some.ensures P c.args.host.now c.args.left.now c.args.last.now v) c.pay.new.left c.pay.new.last c.in-Yes.ensures.steps.0 c.in-Yes.ensures.steps.1 c.in-Yes.ensures.look
+    (λ o u. o ≡ going g.H.Host.meaning P c.act.new.thread (state_of c.act.new.thread.state c.args.host.now c.act.new.left c.pay.new.last u)) [] refl
+    (λ u b. subst (λ n. Leads g.H.Host.meaning P (whole g.H.Host.meaning P c.next_instr.new.thread (first_of g.H.Host.meaning P c.next_instr.new.thread c.in-Some.instr (state_of c.next_instr.new.thread.state c.args.host.now c.pay.new.left c.pay.new.last u))) n c.act.new.thread c.args.host.now c.act.new.left c.pay.new.last u) c.in-Ok-Go.field-0-is (c.in-Ok-Go.ensures.leads c.args.host.now c.pay.new.last u))
+
+pub returns-in-Ok-Trap-clause-leads : goal.returns-in-Ok-Trap-clause-leads
+returns-in-Ok-Trap-clause-leads g c =
+    let P = program_of c.args.functions.now in
+    turn_by g.H.Host.meaning g.H.Host.stands P g.P.Stop.may c.args.stop.now c.pay.new.stop c.args.host.now c.args.thread.now c.next_instr.new.thread c.in-Some.instr c.args.left.now c.args.last.now (λ v. c.in-Some.ensures P c.args.host.now c.args.left.now c.args.last.now v) c.pay.new.left c.pay.new.last c.in-Yes.ensures.steps.0 c.in-Yes.ensures.steps.1 c.in-Yes.ensures.look
+    (λ o u. Ends g.H.Host.stands (end.Trap c.in-Ok-Trap.kind) c.args.host.now c.act.new.left u o) [] refl
+    (λ u b. stops_ends g.H.Host.stands (end.Trap c.in-Ok-Trap.kind) c.args.host.now c.act.new.left u _ (subst (λ n. Leads g.H.Host.meaning P (whole g.H.Host.meaning P c.next_instr.new.thread (first_of g.H.Host.meaning P c.next_instr.new.thread c.in-Some.instr (state_of c.next_instr.new.thread.state c.args.host.now c.pay.new.left c.pay.new.last u))) n c.act.new.thread c.args.host.now c.act.new.left c.pay.new.last u) c.in-Ok-Trap.field-0-is (c.in-Ok-Trap.ensures.leads c.args.host.now c.pay.new.last u)))
+
+pub returns-in-Ok-StepLimit-clause-leads : goal.returns-in-Ok-StepLimit-clause-leads
+returns-in-Ok-StepLimit-clause-leads g c =
+    let P = program_of c.args.functions.now in
+    turn_by g.H.Host.meaning g.H.Host.stands P g.P.Stop.may c.args.stop.now c.pay.new.stop c.args.host.now c.args.thread.now c.next_instr.new.thread c.in-Some.instr c.args.left.now c.args.last.now (λ v. c.in-Some.ensures P c.args.host.now c.args.left.now c.args.last.now v) c.pay.new.left c.pay.new.last c.in-Yes.ensures.steps.0 c.in-Yes.ensures.steps.1 c.in-Yes.ensures.look
+    (λ o u. Ends g.H.Host.stands end.StepLimit c.args.host.now c.act.new.left u o) [] refl
+    (λ u b. let h = subst (λ n. Leads g.H.Host.meaning P (whole g.H.Host.meaning P c.next_instr.new.thread (first_of g.H.Host.meaning P c.next_instr.new.thread c.in-Some.instr (state_of c.next_instr.new.thread.state c.args.host.now c.pay.new.left c.pay.new.last u))) n c.act.new.thread c.args.host.now c.act.new.left c.pay.new.last u) c.in-Ok-StepLimit.field-0-is (c.in-Ok-StepLimit.ensures.leads c.args.host.now c.pay.new.last u) in
+    subst (λ k. Ends g.H.Host.stands end.StepLimit c.args.host.now k u (whole g.H.Host.meaning P c.next_instr.new.thread (first_of g.H.Host.meaning P c.next_instr.new.thread c.in-Some.instr (state_of c.next_instr.new.thread.state c.args.host.now c.pay.new.left c.pay.new.last u)))) (sym h.1) (stops_ends g.H.Host.stands end.StepLimit c.args.host.now 0 u _ h.0))
+
+pub returns-in-Ok-CallDepth-clause-leads : goal.returns-in-Ok-CallDepth-clause-leads
+returns-in-Ok-CallDepth-clause-leads g c =
+    let P = program_of c.args.functions.now in
+    turn_by g.H.Host.meaning g.H.Host.stands P g.P.Stop.may c.args.stop.now c.pay.new.stop c.args.host.now c.args.thread.now c.next_instr.new.thread c.in-Some.instr c.args.left.now c.args.last.now (λ v. c.in-Some.ensures P c.args.host.now c.args.left.now c.args.last.now v) c.pay.new.left c.pay.new.last c.in-Yes.ensures.steps.0 c.in-Yes.ensures.steps.1 c.in-Yes.ensures.look
+    (λ o u. Ends g.H.Host.stands end.CallDepth c.args.host.now c.act.new.left u o) [] refl
+    (λ u b. stops_ends g.H.Host.stands end.CallDepth c.args.host.now c.act.new.left u _ (subst (λ n. Leads g.H.Host.meaning P (whole g.H.Host.meaning P c.next_instr.new.thread (first_of g.H.Host.meaning P c.next_instr.new.thread c.in-Some.instr (state_of c.next_instr.new.thread.state c.args.host.now c.pay.new.left c.pay.new.last u))) n c.act.new.thread c.args.host.now c.act.new.left c.pay.new.last u) c.in-Ok-CallDepth.field-0-is (c.in-Ok-CallDepth.ensures.leads c.args.host.now c.pay.new.last u)))
+
+pub returns-in-Go-clause-leads : goal.returns-in-Go-clause-leads
+returns-in-Go-clause-leads g c =
+    let P = program_of c.args.functions.now in
+    turn_by g.H.Host.meaning g.H.Host.stands P g.P.Stop.may c.args.stop.now c.pay.new.stop c.args.host.now c.args.thread.now c.next_instr.new.thread c.in-Some.instr c.args.left.now c.args.last.now (λ v. c.in-Some.ensures P c.args.host.now c.args.left.now c.args.last.now v) c.pay.new.left c.pay.new.last c.in-Yes.ensures.steps.0 c.in-Yes.ensures.steps.1 c.in-Yes.ensures.look
+    (λ o u. o ≡ going g.H.Host.meaning P c.host_call.new.thread (state_of c.host_call.new.thread.state c.host_call.new.host c.host_call.new.left c.pay.new.last u)) (CallSupplied ∷ []) refl
+    (λ u b. let h = subst (λ n. Leads g.H.Host.meaning P (whole g.H.Host.meaning P c.next_instr.new.thread (first_of g.H.Host.meaning P c.next_instr.new.thread c.in-Some.instr (state_of c.next_instr.new.thread.state c.args.host.now c.pay.new.left c.pay.new.last u))) n c.act.new.thread c.args.host.now c.act.new.left c.pay.new.last u) c.in-Ok-HostCall.field-0-is (c.in-Ok-HostCall.ensures.leads c.args.host.now c.pay.new.last u) in h.0 ∙ c.in-Go.ensures.leads P c.pay.new.last u b.0)
+
+pub returns-in-Ended-clause-leads : goal.returns-in-Ended-clause-leads
+returns-in-Ended-clause-leads g c =
+    let P = program_of c.args.functions.now in
+    turn_by g.H.Host.meaning g.H.Host.stands P g.P.Stop.may c.args.stop.now c.pay.new.stop c.args.host.now c.args.thread.now c.next_instr.new.thread c.in-Some.instr c.args.left.now c.args.last.now (λ v. c.in-Some.ensures P c.args.host.now c.args.left.now c.args.last.now v) c.pay.new.left c.pay.new.last c.in-Yes.ensures.steps.0 c.in-Yes.ensures.steps.1 c.in-Yes.ensures.look
+    (λ o u. Ends g.H.Host.stands c.in-Ended.end c.host_call.new.host c.host_call.new.left u o) (CallSupplied ∷ []) refl
+    (λ u b. let h = subst (λ n. Leads g.H.Host.meaning P (whole g.H.Host.meaning P c.next_instr.new.thread (first_of g.H.Host.meaning P c.next_instr.new.thread c.in-Some.instr (state_of c.next_instr.new.thread.state c.args.host.now c.pay.new.left c.pay.new.last u))) n c.act.new.thread c.args.host.now c.act.new.left c.pay.new.last u) c.in-Ok-HostCall.field-0-is (c.in-Ok-HostCall.ensures.leads c.args.host.now c.pay.new.last u) in
+    subst (Ends g.H.Host.stands c.in-Ended.end c.host_call.new.host c.host_call.new.left (after_call u)) (sym h.0) (c.in-Ended.ensures.leads P c.pay.new.last u b.0))
+
+pub returns-in-Lacks-clause-leads : goal.returns-in-Lacks-clause-leads
+returns-in-Lacks-clause-leads g c =
+    let P = program_of c.args.functions.now in
+    turn_by g.H.Host.meaning g.H.Host.stands P g.P.Stop.may c.args.stop.now c.pay.new.stop c.args.host.now c.args.thread.now c.next_instr.new.thread c.in-Some.instr c.args.left.now c.args.last.now (λ v. c.in-Some.ensures P c.args.host.now c.args.left.now c.args.last.now v) c.pay.new.left c.pay.new.last c.in-Yes.ensures.steps.0 c.in-Yes.ensures.steps.1 c.in-Yes.ensures.look
+    (λ o u. Wanting u → Lacking g.H.Host.stands c.host_call.new.host c.host_call.new.left u o) [] refl
+    (λ u b want. let h = subst (λ n. Leads g.H.Host.meaning P (whole g.H.Host.meaning P c.next_instr.new.thread (first_of g.H.Host.meaning P c.next_instr.new.thread c.in-Some.instr (state_of c.next_instr.new.thread.state c.args.host.now c.pay.new.left c.pay.new.last u))) n c.act.new.thread c.args.host.now c.act.new.left c.pay.new.last u) c.in-Ok-HostCall.field-0-is (c.in-Ok-HostCall.ensures.leads c.args.host.now c.pay.new.last u) in
+    subst (Lacking g.H.Host.stands c.host_call.new.host c.host_call.new.left u) (sym h.0) (c.in-Lacks.ensures.leads P c.pay.new.last u want.1))
+
+pub returns-in-Err-clause-leads : goal.returns-in-Err-clause-leads
+returns-in-Err-clause-leads g c =
+    let P = program_of c.args.functions.now in
+    lack_by g.H.Host.meaning g.H.Host.stands P g.P.Stop.may c.args.stop.now c.pay.new.stop c.args.host.now c.args.thread.now c.next_instr.new.thread c.in-Some.instr c.args.left.now c.args.last.now (λ v. c.in-Some.ensures P c.args.host.now c.args.left.now c.args.last.now v) c.pay.new.left c.pay.new.last c.in-Yes.ensures.steps.0 c.in-Yes.ensures.steps.1 c.in-Yes.ensures.look
+
+pub host_call-requires-clause-room : goal.host_call-requires-clause-room
+host_call-requires-clause-room g c =
+    let P = program_of c.args.functions.now in
+    let h = subst (λ n. Leads g.H.Host.meaning P (whole g.H.Host.meaning P c.next_instr.new.thread (first_of g.H.Host.meaning P c.next_instr.new.thread c.in-Some.instr (state_of c.next_instr.new.thread.state c.args.host.now c.pay.new.left c.pay.new.last some_outside))) n c.act.new.thread c.args.host.now c.act.new.left c.pay.new.last some_outside) c.in-Ok-HostCall.field-0-is (c.in-Ok-HostCall.ensures.leads c.args.host.now c.pay.new.last some_outside) in h.1
+
+pub host_call-requires-clause-allowed : goal.host_call-requires-clause-allowed
+host_call-requires-clause-allowed g c =
+    let P = program_of c.args.functions.now in
+    let h = subst (λ n. Leads g.H.Host.meaning P (whole g.H.Host.meaning P c.next_instr.new.thread (first_of g.H.Host.meaning P c.next_instr.new.thread c.in-Some.instr (state_of c.next_instr.new.thread.state c.args.host.now c.pay.new.left c.pay.new.last some_outside))) n c.act.new.thread c.args.host.now c.act.new.left c.pay.new.last some_outside) c.in-Ok-HostCall.field-0-is (c.in-Ok-HostCall.ensures.leads c.args.host.now c.pay.new.last some_outside) in
+    let less : c.act.new.left < c.args.left.now = omega (arith, c.in-Ok-HostCall.ensures.falls, c.in-Yes.ensures.steps.0) in
+    c.requires c.act.new.left less c.in-Ok-HostCall.kind.now c.in-Ok-HostCall.number (arguments (length c.in-Ok-HostCall.kind.now.params) (popped c.act.new.thread.state.values.stack)) h.3 h.2

@@ -1,0 +1,29 @@
+use Rattle.std.proofs.Common.{ap, ◌∙◌}
+use Rattle.ante_wtree.specs.Expressions.{expression_of}
+use Rattle.ante_wrun.specs.Meaning.{Normal, does, call}
+use Rattle.ante_wrun.specs.Machine.{state_of, under}
+use Rattle.ante_wrun.proofs.Bodies.{no_items}
+use Rattle.ante_wrun.proofs.thread.next_instr.Goals as goal
+
+pub returns-in-Some : goal.returns-in-Some
+returns-in-Some g c = λ program w left last outside.
+    let t = c.bodies.thread in
+    c.bodies.invariant program w left last outside
+    ∙ ap (λ code. under g.H.Host.meaning program t.free t.state.values.below t.frames (does program (call g.H.Host.meaning program t.free) (expression_of code) (state_of t.state w left last outside))) c.in-Some.ensures.cases.0
+
+pub returns-in_default-pop : goal.returns-in_default-pop
+returns-in_default-pop g c = λ program w left last outside.
+    let t = c.bodies.thread in
+    let s = state_of t.state w left last outside in
+    c.bodies.invariant program w left last outside
+    ∙ ap (λ code. under g.H.Host.meaning program t.free t.state.values.below t.frames (does program (call g.H.Host.meaning program t.free) (expression_of code) s)) (no_items t.code.now c.in_default.ensures.cases)
+    ∙ ap (λ fs. under g.H.Host.meaning program t.free t.state.values.below fs (Normal s)) c.in_default-pop.ensures.0
+
+pub bodies-preserved : goal.bodies-preserved
+bodies-preserved g c = λ program w left last outside.
+    let t = c.bodies.thread in
+    let s = state_of t.state w left last outside in
+    c.bodies.invariant program w left last outside
+    ∙ ap (λ code. under g.H.Host.meaning program t.free t.state.values.below t.frames (does program (call g.H.Host.meaning program t.free) (expression_of code) s)) (no_items t.code.now c.in_default.ensures.cases)
+    ∙ ap (λ fs. under g.H.Host.meaning program t.free t.state.values.below fs (Normal s)) c.in-Some-pop.ensures
+    ∙ c.resume.ensures.whole program w left last outside

@@ -1,0 +1,63 @@
+-- What instructions lead a thread to.
+use Rattle.std.specs.Prelude.{◌≡◌, ℕ, zero, suc, ◌<◌, map, length, slice_get, Some, true}
+use Rattle.ante_wmem.specs.HostCalls.{HostMeaning}
+use Rattle.ante_wtree.specs.declared.modules.FuncType.{FuncType}
+use Rattle.ante_wtree.specs.Expressions.{Expression, expression_of}
+use Rattle.ante_wrun.specs.declared.ends.RunEnd.{RunEnd}
+use Rattle.ante_wrun.specs.declared.ends.RunEnd.TheVariants as end
+use Rattle.ante_wrun.specs.declared.thread.Thread.{Thread}
+use Rattle.ante_wrun.specs.declared.control.Function.{Function}
+use Rattle.ante_wrun.specs.declared.control.Function.TheVariants as function
+use Rattle.ante_wrun.specs.declared.control.Functions.{Functions}
+use Rattle.ante_wrun.specs.declared.control.Next.{Next}
+use Rattle.ante_wrun.specs.declared.control.Next.TheVariants as next
+use Rattle.ante_wrun.specs.Effects.{popped}
+use Rattle.ante_wrun.specs.Meaning.{Outside, FunctionInstance, Own, Given, Missing, Program, State, Outcome, Ended, on_stack, arguments, all_fit, call_host, no_frame, in_frame, does, call}
+use Rattle.ante_wrun.specs.Machine.{state_of, going, after}
+
+abbrev pub instance_of : Function → FunctionInstance
+instance_of (function.Own kind locals body) = Own kind.now locals (expression_of body.now)
+instance_of (function.Host kind number) = Given kind.now number
+instance_of function.Missing = Missing
+
+abbrev pub program_of : Functions → Program
+program_of f = record { types = f.types.now; functions = map instance_of f.all.items; table = f.table.items }
+
+-- the function of this number is one of the host's
+abbrev pub IsGiven : Program → FuncType → ℕ → Type 0
+IsGiven program kind number = (f : ℕ) × (slice_get program.functions f ≡ Some (Given kind number))
+
+abbrev pub NotHostCall : Next → Type 0
+NotHostCall next.Go = Unit {0}
+NotHostCall (next.Trap kind) = Unit {0}
+NotHostCall next.StepLimit = Unit {0}
+NotHostCall next.CallDepth = Unit {0}
+NotHostCall (next.HostCall kind number) = ⊥
+
+-- a host call is that of the function of this number
+abbrev pub GivenAt : Program → ℕ → Next → Type 0
+GivenAt program at next.Go = Unit {0}
+GivenAt program at (next.Trap kind) = Unit {0}
+GivenAt program at next.StepLimit = Unit {0}
+GivenAt program at next.CallDepth = Unit {0}
+GivenAt program at (next.HostCall kind number) = slice_get program.functions at ≡ Some (Given kind.now number)
+
+-- the run has ended so
+abbrev pub Stops : {W R : Type 0} → RunEnd R → W → ℕ → Outside → Outcome W R → Type 0
+Stops {W} {R} e w left outside o = (s : State W) × (o ≡ Ended e s) × (s.world ≡ w) × (s.left ≡ left) × (s.outside ≡ outside)
+
+module _ {W R : Type 0} (host : HostMeaning W R) (program : Program) where
+  -- a call of one of the module's functions where so many frames are free
+  abbrev pub own_at : ℕ → FuncType → ℕ → Expression → State W → Outcome W R
+  own_at zero = no_frame
+  own_at (suc free) = in_frame (does program (call host program free))
+
+  abbrev pub Leads : Outcome W R → Next → Thread → W → (left last : ℕ) → Outside → Type 0
+  Leads o next.Go t w left last outside = o ≡ going host program t (state_of t.state w left last outside)
+  Leads o (next.Trap kind) t w left last outside = Stops (end.Trap kind) w left outside o
+  Leads o next.StepLimit t w left last outside = Stops end.StepLimit w 0 outside o × (left ≡ 0)
+  Leads o next.CallDepth t w left last outside = Stops end.CallDepth w left outside o
+  Leads o (next.HostCall kind number) t w left last outside =
+      let s = state_of t.state w left last outside in
+      (o ≡ after host program t (call_host host kind.now number (on_stack s (popped s.values.stack)))) × (length kind.now.params < length t.state.values.stack)
+      × (all_fit kind.now.params (arguments (length kind.now.params) (popped s.values.stack)) ≡ true) × IsGiven program kind.now number

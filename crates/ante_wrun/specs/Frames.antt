@@ -1,0 +1,27 @@
+-- What the machine holds, and what is still to be done in its open frames.
+use Rattle.std.specs.Prelude.{ℕ, suc, List, [], ◌∷◌, Option}
+use Rattle.ante_wmem.specs.HostCalls.{HostMeaning}
+use Rattle.ante_wtree.specs.declared.instructions.ValueKind.{ValueKind}
+use Rattle.ante_wtree.specs.Expressions.{Expression}
+use Rattle.ante_wrun.specs.Meaning.{Program, Outcome, and_then, of_block, of_loop, of_call, settled, turns, does, call}
+
+-- The values of all frames: the locals and operands of the frames below as they lie, then this frame's.
+pub record FrameValues : Type 0 where
+  pub below : List ℕ
+  pub locals : List ℕ
+  pub stack : List ℕ
+
+-- A body that isn't ended, with what is to be done after it. A call's has the caller's locals, operands and free frames.
+pub data Open : Type 0 where
+  InBlock : (kind : Option ValueKind) → (height : ℕ) → (rest : Expression) → Open
+  InLoop : (height : ℕ) → (body rest : Expression) → Open
+  InCall : (kind : Option ValueKind) → (locals stack : List ℕ) → (free : ℕ) → (rest : Expression) → Open
+
+module _ {W R : Type 0} (host : HostMeaning W R) (program : Program) where
+  -- the outcome of the whole, where this is the innermost body's
+  abbrev pub unwind : (free : ℕ) → List Open → Outcome W R → Outcome W R
+  unwind free [] o = settled o
+  unwind free (InBlock kind height rest ∷ frames) o = unwind free frames (and_then (of_block kind height o) (does program (call host program free) rest))
+  unwind free (InLoop height body rest ∷ frames) o =
+      unwind free frames (and_then (of_loop height o (λ s. turns (suc s.left) (does program (call host program free) body) height s)) (does program (call host program free) rest))
+  unwind free (InCall kind locals stack above rest ∷ frames) o = unwind above frames (and_then (of_call kind locals stack o) (does program (call host program above) rest))

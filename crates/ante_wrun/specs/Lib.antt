@@ -1,0 +1,7 @@
+pub mod Effects
+pub mod Meaning
+pub mod Frames
+pub mod Machine
+pub mod Control
+pub mod Runs
+pub mod Turns

@@ -1,0 +1,62 @@
+-- What the machine's parts stand for.
+use Rattle.std.specs.Prelude.{◌≡◌, ℕ, List, [], ◌∷◌, take, drop, reverse, Option, None, Some}
+use denote.Bor.{Bor}
+use Rattle.ante_wmem.specs.HostCalls.{HostMeaning}
+use Rattle.ante_wtree.specs.declared.instructions.Instr.{Instr}
+use Rattle.ante_wtree.specs.Expressions.{expression_of, put}
+use Rattle.ante_wrun.specs.declared.ends.TrapKind.{TrapKind}
+use Rattle.ante_wrun.specs.declared.data.Data.{Data}
+use Rattle.ante_wrun.specs.declared.thread.Frame.{Frame}
+use Rattle.ante_wrun.specs.declared.thread.Frame.TheVariants as frame
+use Rattle.ante_wrun.specs.declared.thread.Thread.{Thread}
+use Rattle.ante_wrun.specs.Effects.{Values, Effect, Next, Traps}
+use Rattle.ante_wrun.specs.Meaning.{Outside, Program, State, Outcome, Normal, and_then, does, call}
+use Rattle.ante_wrun.specs.Frames.{Open, InBlock, InLoop, InCall, unwind}
+
+-- ---- plain instructions
+
+abbrev pub values_of : Data → Values
+values_of d = record { locals = d.values.locals; stack = d.values.stack; globals = d.globals.items; memory = d.memory }
+
+-- An instruction without a trap leaves what it gives. One that traps leaves the memory.
+abbrev pub Does : Effect → Option TrapKind → Data → Data → Type 0
+Does (Next v) trap old new = (trap ≡ None) × (values_of new ≡ v)
+Does (Traps kind) trap old new = (trap ≡ Some kind) × (new.memory ≡ old.memory)
+
+-- ---- frames
+
+abbrev pub state_of : {W : Type 0} → Data → W → (left last : ℕ) → Outside → State W
+state_of d w left last outside = record { values = values_of d; world = w; left = left; last = last; outside = outside }
+
+-- the open bodies over the values that lie below the current frame's
+abbrev pub opens : List ℕ → List Frame → List Open
+opens below [] = []
+opens below (frame.Block kind height rest ∷ frames) = InBlock kind height (expression_of rest.now) ∷ opens below frames
+opens below (frame.Loop height body rest ∷ frames) = InLoop height (expression_of body.now) (expression_of rest.now) ∷ opens below frames
+opens below (frame.Call kind base locals free rest ∷ frames) =
+    InCall kind (take locals (drop base below)) (reverse (drop locals (drop base below))) free (expression_of rest.now) ∷ opens (take base below) frames
+
+module _ {W R : Type 0} (host : HostMeaning W R) (program : Program) where
+  abbrev pub under : (free : ℕ) → (below : List ℕ) → List Frame → Outcome W R → Outcome W R
+  under free below frames o = unwind host program free (opens below frames) o
+
+  -- the outcome of the whole, where this is the innermost body's
+  abbrev pub whole : Thread → Outcome W R → Outcome W R
+  whole t o = under t.free t.state.values.below t.frames o
+
+  -- what the rest of the innermost body does
+  abbrev pub rest_of : Thread → State W → Outcome W R
+  rest_of t s = does program (call host program t.free) (expression_of t.code.now) s
+
+  -- the outcome of the whole from here on
+  abbrev pub going : Thread → State W → Outcome W R
+  going t s = whole t (rest_of t s)
+
+  -- the outcome of the whole, where this is that of the instruction before the rest
+  abbrev pub after : Thread → Outcome W R → Outcome W R
+  after t o = whole t (and_then o (rest_of t))
+
+  -- the instruction that is next, with the rest after it
+  abbrev pub Finds : Outcome W R → Option (Bor Instr) → Thread → State W → Type 0
+  Finds o None t s = o ≡ Normal s
+  Finds o (Some i) t s = o ≡ whole t (does program (call host program t.free) (put i.now (expression_of t.code.now)) s)

@@ -1,0 +1,363 @@
+-- The meaning of a body: the execution chapter of WebAssembly Core 1.0 (section 4.4) as recursion on the tree, with the
+-- steps that are paid, the looks at the stop and the frames that there may be. W is the host, R its refusals.
+use Rattle.std.specs.Prelude.{ℕ, zero, suc, ◌+◌, ◌-◌, ◌/◌, ◌^◌, Bool, true, false, not, ◌&&◌, ◌==◌, nat_lt, nat_le, List, [], ◌∷◌, ◌++◌, length, take, drop, reverse, replicate, slice_get, slice_index_or, Option, None, Some, Result, Ok, Err}
+use Rattle.ante_wmem.specs.Linear.{may_grow, growth_answer, grown}
+use Rattle.ante_wmem.specs.HostCalls.{Reply, value, nothing, exit, refused, step_limit, HostMeaning}
+use Rattle.ante_wmem.specs.declared.host.HostAnswer.{HostAnswer}
+use Rattle.ante_wmem.specs.declared.host.HostAnswer.TheVariants as answer
+use Rattle.ante_wtree.specs.declared.instructions.ValueKind.{ValueKind}
+use Rattle.ante_wtree.specs.declared.instructions.ValueKind.TheVariants.{I32, I64}
+use Rattle.ante_wtree.specs.declared.modules.FuncType.{FuncType}
+use Rattle.ante_wtree.specs.Expressions.{Expression, Over, Plain, Block, Loop, If, Br, BrIf, BrTable, Return, Call, CallIndirect, MemoryGrow}
+use Rattle.ante_wrun.specs.declared.ends.TrapKind.{TrapKind}
+use Rattle.ante_wrun.specs.declared.ends.TrapKind.TheVariants as trap
+use Rattle.ante_wrun.specs.declared.ends.RunEnd.{RunEnd}
+use Rattle.ante_wrun.specs.declared.ends.RunEnd.TheVariants as end
+use Rattle.ante_wrun.specs.Effects.{Values, Effect, Next, Traps, effect, top, popped, low, with_stack}
+
+-- ---- what the outside decides while a run lasts
+
+-- Three questions are asked of the outside, each time the next of its kind, counted from 0: what a look answers;
+-- whether memory is wanted for an instruction, and refused; whether it is in a host call.
+pub record Outside : Type 0 where
+  pub looks : ℕ
+  pub look_answer : ℕ → Option ℕ
+  pub items : ℕ
+  pub item_lacks : ℕ → Bool
+  pub calls : ℕ
+  pub call_lacks : ℕ → Bool
+
+abbrev pub after_look : Outside → Outside
+after_look o = record o { looks = suc o.looks }
+
+abbrev pub after_item : Outside → Outside
+after_item o = record o { items = suc o.items }
+
+abbrev pub after_call : Outside → Outside
+after_call o = record o { calls = suc o.calls }
+
+-- ---- a module in a run: the types, its functions in order, the imported ones first, and the table's places
+
+-- an own function with its type, the number of its locals beside the parameters and its body, or one of the host's with
+-- its type and its number
+pub data FunctionInstance : Type 0 where
+  Own : (kind : FuncType) → (locals : ℕ) → (body : Expression) → FunctionInstance
+  Given : (kind : FuncType) → (number : ℕ) → FunctionInstance
+  Missing : FunctionInstance
+
+pub record Program : Type 0 where
+  pub types : List FuncType
+  pub functions : List FunctionInstance
+  pub table : List (Option ℕ)
+
+-- ---- states and outcomes
+
+pub record State (W : Type 0) : Type 0 where
+  pub values : Values
+  pub world : W
+  pub left : ℕ
+  -- what was left before the instruction executed last
+  pub last : ℕ
+  pub outside : Outside
+
+pub data Outcome (W R : Type 0) : Type 0 where
+  Normal : State W → Outcome W R
+  -- a branch to the label of this depth
+  Branch : ℕ → State W → Outcome W R
+  Returned : State W → Outcome W R
+  Ended : RunEnd R → State W → Outcome W R
+  -- memory was wanted and refused before the next instruction was done
+  Lacks : State W → Outcome W R
+  -- The host ended the run by this answer: the function, the arguments, the answer, the steps left by it. The state is that of the call.
+  InHost : ℕ → List ℕ → HostAnswer R → ℕ → State W → Outcome W R
+
+-- the lowest operands, as many as there were at a block's begin
+abbrev pub keep : (height : ℕ) → List ℕ → List ℕ
+keep height stack = drop (length stack - height) stack
+
+-- how many results a block or a function has
+abbrev pub arity : Option ValueKind → ℕ
+arity None = 0
+arity (Some kind) = 1
+
+-- what a branch to a block's label leaves: the block's results from the top, on the operands that were there before
+abbrev pub unwound : Option ValueKind → (height : ℕ) → List ℕ → List ℕ
+unwound kind height stack = take (arity kind) stack ++ keep height (drop (arity kind) stack)
+
+abbrev pub result_of : List ValueKind → Option ValueKind
+result_of [] = None
+result_of (kind ∷ kinds) = Some kind
+
+-- the arguments, the first one first
+abbrev pub arguments : (count : ℕ) → List ℕ → List ℕ
+arguments count stack = reverse (take count stack)
+
+module _ {W : Type 0} where
+  abbrev pub with_values : State W → Values → State W
+  with_values s v = record s { values = v }
+
+  abbrev pub stack_of : State W → List ℕ
+  stack_of s = s.values.stack
+
+  abbrev pub on_stack : State W → List ℕ → State W
+  on_stack s stack = record s { values = with_stack s.values stack }
+
+  -- The caller's locals and operands, with the function's result on top of these.
+  abbrev pub returned : Option ValueKind → (locals stack : List ℕ) → State W → State W
+  returned kind locals stack s = record s { values = record s.values { locals = locals; stack = take (arity kind) (stack_of s) ++ stack } }
+
+  -- the old size goes onto the operands, or -1 where the memory may not grow
+  abbrev pub grown_by : (pages : ℕ) → State W → State W
+  grown_by pages s = record s { values = record s.values { stack = growth_answer s.values.memory pages ∷ stack_of s; memory = grown s.values.memory pages } }
+
+  -- the state in which a body begins: the arguments and zeros as locals, and no operands
+  abbrev pub entered : FuncType → (locals : ℕ) → State W → State W
+  entered kind locals s = record s { values = record s.values { locals = arguments (length kind.params) (stack_of s) ++ replicate locals 0; stack = [] } }
+
+-- ---- steps and looks, in one place before every instruction
+
+-- a look is due each time that the steps left, in rounds of 1,024, have come into a lower round
+abbrev pub round : ℕ → ℕ
+round left = (left + 1023) / 1024
+
+abbrev pub due : (left last : ℕ) → Bool
+due left last = nat_lt (round left) (round last)
+
+module _ {W R : Type 0} where
+  abbrev pub supplied : Bool → State W → (State W → Outcome W R) → Outcome W R
+  supplied true s go = Lacks s
+  supplied false s go = go (record s { outside = after_item s.outside })
+
+  abbrev pub pay : ℕ → State W → (State W → Outcome W R) → Outcome W R
+  pay zero s go = Ended end.StepLimit s
+  pay (suc n) s go = supplied (s.outside.item_lacks s.outside.items) s (λ t. go (record t { left = n; last = suc n }))
+
+  abbrev pub seen : Bool → Option ℕ → State W → (State W → Outcome W R) → Outcome W R
+  seen false answer s go = pay s.left s go
+  seen true None s go = pay s.left (record s { outside = after_look s.outside }) go
+  seen true (Some at) s go = Ended (end.Cut at) (record s { outside = after_look s.outside })
+
+  abbrev pub step : State W → (State W → Outcome W R) → Outcome W R
+  step s go = seen (due s.left s.last) (s.outside.look_answer s.outside.looks) s go
+
+  -- code that isn't over begins with an instruction, which takes a step
+  abbrev pub starts : Expression → (State W → Outcome W R) → State W → Outcome W R
+  starts Over first s = Normal s
+  starts (Plain i rest) first s = step s first
+  starts (Block kind body rest) first s = step s first
+  starts (Loop kind body rest) first s = step s first
+  starts (If kind one two rest) first s = step s first
+  starts (Br n rest) first s = step s first
+  starts (BrIf n rest) first s = step s first
+  starts (BrTable ns n rest) first s = step s first
+  starts (Return rest) first s = step s first
+  starts (Call f rest) first s = step s first
+  starts (CallIndirect t rest) first s = step s first
+  starts (MemoryGrow rest) first s = step s first
+
+  -- ---- what follows an outcome
+
+  abbrev pub and_then : Outcome W R → (State W → Outcome W R) → Outcome W R
+  and_then (Normal s) go = go s
+  and_then (Branch n s) go = Branch n s
+  and_then (Returned s) go = Returned s
+  and_then (Ended e s) go = Ended e s
+  and_then (Lacks s) go = Lacks s
+  and_then (InHost f args a n s) go = InHost f args a n s
+
+  -- a branch to a block's label goes on after the block
+  abbrev pub of_block : Option ValueKind → (height : ℕ) → Outcome W R → Outcome W R
+  of_block kind height (Normal s) = Normal s
+  of_block kind height (Branch zero s) = Normal (on_stack s (unwound kind height (stack_of s)))
+  of_block kind height (Branch (suc n) s) = Branch n s
+  of_block kind height (Returned s) = Returned s
+  of_block kind height (Ended e s) = Ended e s
+  of_block kind height (Lacks s) = Lacks s
+  of_block kind height (InHost f args a n s) = InHost f args a n s
+
+  -- a branch to a loop's label begins its body again
+  abbrev pub of_loop : (height : ℕ) → Outcome W R → (State W → Outcome W R) → Outcome W R
+  of_loop height (Normal s) again = Normal s
+  of_loop height (Branch zero s) again = again (on_stack s (keep height (stack_of s)))
+  of_loop height (Branch (suc n) s) again = Branch n s
+  of_loop height (Returned s) again = Returned s
+  of_loop height (Ended e s) again = Ended e s
+  of_loop height (Lacks s) again = Lacks s
+  of_loop height (InHost f args a n s) again = InHost f args a n s
+
+  -- a branch out of a function's body returns
+  abbrev pub of_call : Option ValueKind → (locals stack : List ℕ) → Outcome W R → Outcome W R
+  of_call kind locals stack (Normal s) = Normal (returned kind locals stack s)
+  of_call kind locals stack (Branch n s) = Normal (returned kind locals stack s)
+  of_call kind locals stack (Returned s) = Normal (returned kind locals stack s)
+  of_call kind locals stack (Ended e s) = Ended e s
+  of_call kind locals stack (Lacks s) = Lacks s
+  of_call kind locals stack (InHost f args a n s) = InHost f args a n s
+
+  -- nothing is around the function that is invoked from outside
+  abbrev pub settled : Outcome W R → Outcome W R
+  settled (Normal s) = Normal s
+  settled (Branch n s) = Normal s
+  settled (Returned s) = Normal s
+  settled (Ended e s) = Ended e s
+  settled (Lacks s) = Lacks s
+  settled (InHost f args a n s) = InHost f args a n s
+
+  abbrev pub of_effect : Effect → State W → (State W → Outcome W R) → Outcome W R
+  of_effect (Next v) s go = go (with_values s v)
+  of_effect (Traps kind) s go = Ended (end.Trap kind) s
+
+  -- ---- control instructions
+
+  -- At most so many turns. A branch back to a loop has taken a step, so one turn more than the steps left is never met.
+  abbrev pub turns : ℕ → (State W → Outcome W R) → (height : ℕ) → State W → Outcome W R
+  turns zero body height s = Ended end.StepLimit s
+  turns (suc n) body height s = of_loop height (body s) (turns n body height)
+
+  -- the second where the condition is 0
+  abbrev pub chosen : Bool → (one two : State W → Outcome W R) → State W → Outcome W R
+  chosen true one two s = two s
+  chosen false one two s = one s
+
+  abbrev pub jump_unless : Bool → ℕ → State W → Outcome W R
+  jump_unless true n s = Normal s
+  jump_unless false n s = Branch n s
+
+  abbrev pub target : Result ℕ TrapKind → (ℕ → State W → Outcome W R) → State W → Outcome W R
+  target (Ok f) calls s = calls f s
+  target (Err kind) calls s = Ended (end.Trap kind) s
+
+  -- the pages are paid once it is known that the memory may grow
+  abbrev pub pay_pages : Bool → (pages : ℕ) → (grown : State W) → State W → Outcome W R
+  pay_pages true pages grown s = Normal (record grown { left = s.left - pages })
+  pay_pages false pages grown s = Ended end.StepLimit (record s { left = 0 })
+
+  abbrev pub grow_if : Bool → (pages : ℕ) → State W → Outcome W R
+  grow_if false pages s = Normal (grown_by pages s)
+  grow_if true pages s = pay_pages (nat_le pages s.left) pages (grown_by pages s) s
+
+  abbrev pub grow : (pages : ℕ) → State W → Outcome W R
+  grow pages s = grow_if (may_grow s.values.memory pages) pages s
+
+-- ---- call_indirect
+
+abbrev pub same_kind : ValueKind → ValueKind → Bool
+same_kind I32 I32 = true
+same_kind I64 I64 = true
+same_kind I32 I64 = false
+same_kind I64 I32 = false
+
+abbrev pub same_kinds : List ValueKind → List ValueKind → Bool
+same_kinds [] [] = true
+same_kinds [] (k ∷ ks) = false
+same_kinds (j ∷ js) [] = false
+same_kinds (j ∷ js) (k ∷ ks) = same_kind j k && same_kinds js ks
+
+abbrev pub has_type : Option FunctionInstance → Option FuncType → Bool
+has_type (Some (Own kind locals body)) (Some wanted) = same_kinds kind.params wanted.params && same_kinds kind.results wanted.results
+has_type (Some (Given kind number)) (Some wanted) = same_kinds kind.params wanted.params && same_kinds kind.results wanted.results
+has_type function wanted = false
+
+abbrev pub of_type : Bool → ℕ → Result ℕ TrapKind
+of_type true f = Ok f
+of_type false f = Err trap.WrongType
+
+abbrev pub of_place : Program → (wanted : ℕ) → Option (Option ℕ) → Result ℕ TrapKind
+of_place program wanted (Some (Some f)) = of_type (has_type (slice_get program.functions f) (slice_get program.types wanted)) f
+of_place program wanted (Some None) = Err trap.NoElement
+of_place program wanted None = Err trap.NoElement
+
+-- the function that the table has at a place, if it is of the type that is named
+abbrev pub element : Program → (wanted at : ℕ) → Result ℕ TrapKind
+element program wanted at = of_place program wanted (slice_get program.table at)
+
+-- ---- a body, with what a call does as a parameter
+
+module _ {W R : Type 0} (program : Program) (calls : ℕ → State W → Outcome W R) where
+  -- what the first instruction does, whose step is paid, and then the rest
+  abbrev pub acts : Expression → State W → Outcome W R
+  acts Over s = Normal s
+  acts (Plain i rest) s = of_effect (effect i s.values) s (starts rest (acts rest))
+  acts (Block kind body rest) s = and_then (of_block kind (length (stack_of s)) (starts body (acts body) s)) (starts rest (acts rest))
+  acts (Loop kind body rest) s = and_then (turns (suc s.left) (starts body (acts body)) (length (stack_of s)) s) (starts rest (acts rest))
+  acts (If kind one two rest) s =
+      let below = popped (stack_of s) in
+      and_then (of_block kind (length below) (chosen (low (top (stack_of s)) == 0) (starts one (acts one)) (starts two (acts two)) (on_stack s below)))
+      (starts rest (acts rest))
+  acts (Br n rest) s = Branch n s
+  acts (BrIf n rest) s = and_then (jump_unless (low (top (stack_of s)) == 0) n (on_stack s (popped (stack_of s)))) (starts rest (acts rest))
+  acts (BrTable ns n rest) s = Branch (slice_index_or ns (low (top (stack_of s))) n) (on_stack s (popped (stack_of s)))
+  acts (Return rest) s = Returned s
+  acts (Call f rest) s = and_then (calls f s) (starts rest (acts rest))
+  acts (CallIndirect t rest) s =
+      and_then (target (element program t (low (top (stack_of s)))) calls (on_stack s (popped (stack_of s)))) (starts rest (acts rest))
+  acts (MemoryGrow rest) s = and_then (grow (low (top (stack_of s))) (on_stack s (popped (stack_of s)))) (starts rest (acts rest))
+
+  abbrev pub does : Expression → State W → Outcome W R
+  does code s = starts code (acts code) s
+
+-- ---- calls
+
+abbrev pub fits : ValueKind → ℕ → Bool
+fits I32 n = nat_lt n (2 ^ 32)
+fits I64 n = nat_lt n (2 ^ 64)
+
+-- values of these kinds, one each
+abbrev pub all_fit : List ValueKind → List ℕ → Bool
+all_fit [] [] = true
+all_fit [] (n ∷ ns) = false
+all_fit (kind ∷ kinds) [] = false
+all_fit (kind ∷ kinds) (n ∷ ns) = fits kind n && all_fit kinds ns
+
+module _ {W R : Type 0} where
+  -- a call that finds too few operands, or of other kinds, traps; none of a valid module does
+  abbrev pub with_operands : Bool → (State W → Outcome W R) → State W → Outcome W R
+  with_operands true go s = Ended (end.Trap trap.Unreachable) s
+  with_operands false go s = go s
+
+  abbrev pub of_reply : (number : ℕ) → (arguments : List ℕ) → (below : List ℕ) → Reply W R → (left : ℕ) → State W → Outcome W R
+  of_reply number arguments below (value n w m) left s =
+      Normal (record s { world = w; left = left; outside = after_call s.outside; values = record s.values { stack = n ∷ below; memory = m } })
+  of_reply number arguments below (nothing w m) left s =
+      Normal (record s { world = w; left = left; outside = after_call s.outside; values = record s.values { stack = below; memory = m } })
+  of_reply number arguments below (exit w m) left s =
+      Ended end.Exit (record s { world = w; left = left; outside = after_call s.outside; values = record s.values { stack = below; memory = m } })
+  of_reply number arguments below (refused r) left s = InHost number arguments (answer.Refused r) left (record s { outside = after_call s.outside })
+  of_reply number arguments below step_limit left s = InHost number arguments answer.StepLimit left (record s { outside = after_call s.outside })
+
+  abbrev pub host_supplied : Bool → (number : ℕ) → (arguments : List ℕ) → Outcome W R → State W → Outcome W R
+  host_supplied true number arguments go s = InHost number arguments answer.OutOfMemory s.left s
+  host_supplied false number arguments go s = go
+
+  abbrev pub call_host : HostMeaning W R → FuncType → (number : ℕ) → State W → Outcome W R
+  call_host host kind number s =
+      let count = length kind.params in
+      let args = arguments count (stack_of s) in
+      let outcome = host s.world number args s.values.memory s.left in
+      host_supplied (s.outside.call_lacks s.outside.calls) number args (of_reply number args (drop count (stack_of s)) outcome.reply outcome.left s) s
+
+  abbrev pub of_function : HostMeaning W R → (own : FuncType → ℕ → Expression → State W → Outcome W R) → Option FunctionInstance → State W → Outcome W R
+  of_function host own (Some (Own kind locals body)) s = own kind locals body s
+  of_function host own (Some (Given kind number)) s = with_operands (not (all_fit kind.params (arguments (length kind.params) (stack_of s)))) (call_host host kind number) s
+  of_function host own (Some Missing) s = Ended (end.Trap trap.Unreachable) s
+  of_function host own None s = Ended (end.Trap trap.Unreachable) s
+
+  abbrev pub no_frame : FuncType → ℕ → Expression → State W → Outcome W R
+  no_frame kind locals body s = Ended end.CallDepth s
+
+  abbrev pub call_own : (Expression → State W → Outcome W R) → FuncType → ℕ → Expression → State W → Outcome W R
+  call_own runs kind locals body s =
+      of_call (result_of kind.results) s.values.locals (drop (length kind.params) (stack_of s)) (runs body (entered kind locals s))
+
+  abbrev pub in_frame : (Expression → State W → Outcome W R) → FuncType → ℕ → Expression → State W → Outcome W R
+  in_frame runs kind locals body s = with_operands (nat_lt (length (stack_of s)) (length kind.params)) (call_own runs kind locals body) s
+
+module _ {W R : Type 0} (host : HostMeaning W R) (program : Program) where
+  -- a call of the function of this number where so many frames are free
+  abbrev pub call : (free : ℕ) → ℕ → State W → Outcome W R
+  call zero f s = of_function host no_frame (slice_get program.functions f) s
+  call (suc free) f s = of_function host (in_frame (does program (call free))) (slice_get program.functions f) s
+
+  -- a call from outside, for which memory may be wanted as for an instruction
+  abbrev pub invoked : (free : ℕ) → ℕ → State W → Outcome W R
+  invoked free f s = supplied (s.outside.item_lacks s.outside.items) s (λ t. settled (call free f t))

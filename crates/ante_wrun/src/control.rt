@@ -1,0 +1,325 @@
+//! What one instruction does to a thread (section 4.4.5).
+ghost use Rattle.std.specs.Prelude.{◌≡◌, ℕ, ◌≤◌, ◌&&◌, ◌==◌, if◌then◌else◌, List, Option, map, length, IfOk, slice_get, slice_index_or};
+ghost use Rattle.std.specs.Option.{option_map, option_copied};
+ghost use Rattle.ante_wtree.specs.Expressions.{put, expression_of};
+ghost use Rattle.ante_wrun.specs.Effects.{low, top, popped};
+ghost use Rattle.ante_wrun.specs.Meaning.{Outside, Program, result_of, same_kind, same_kinds, has_type, element, on_stack, stack_of, grow, target, acts, call};
+ghost use Rattle.ante_wrun.specs.Machine.{state_of, whole, going, after};
+ghost use Rattle.ante_wrun.specs.Control.{instance_of, program_of, own_at, Leads, NotHostCall, GivenAt};
+
+use crate::data::low;
+use crate::ends::TrapKind;
+use crate::plain::plain;
+use crate::thread::{Frame, Thread, branch, leave};
+use ante_wmem::Host;
+use ante_wtree::{FuncType, Instr, Shape, ValueKind, shape_of};
+use std::alloc::{AllocError, Global};
+
+/// A function of the module: one of its own, with the number of its locals beside the parameters, or one of the host's.
+#[derive(Clone, Copy)]
+pub(crate) enum Function<'a> {
+    Own {
+        kind: &'a FuncType,
+        locals: u32,
+        body: &'a [Instr],
+    },
+    Host {
+        kind: &'a FuncType,
+        number: u32,
+    },
+    /// No valid module has one.
+    Missing,
+}
+
+/// The parts of a module that calls look at.
+#[derive(Drop)]
+pub(crate) struct Functions<'a> {
+    pub(crate) types: &'a [FuncType],
+    pub(crate) all: Vec<Function<'a>>,
+    pub(crate) table: Vec<Option<u32>>,
+}
+
+/// What comes after an instruction.
+pub(crate) enum Next<'a> {
+    Go,
+    Trap(TrapKind),
+    StepLimit,
+    CallDepth,
+    /// A call of this function of the host. A 0 is on top of the arguments, as room for the result.
+    HostCall(&'a FuncType, u32),
+}
+
+fn function_at<'a>(functions: &[Function<'a>], at: u32) -> Option<Function<'a>>
+    ensures { result ≡ slice_get functions.now at }
+{
+    functions.get(at as usize).copied()
+}
+
+fn result_of(kinds: &[ValueKind]) -> Option<ValueKind>
+    ensures { result ≡ result_of kinds.now }
+{
+    kinds.first().copied()
+}
+
+fn same_kind(one: ValueKind, two: ValueKind) -> bool
+    ensures { result ≡ same_kind one two }
+{
+    match one {
+        ValueKind::I32 => matches!(two, ValueKind::I32),
+        ValueKind::I64 => matches!(two, ValueKind::I64),
+    }
+}
+
+fn same_kinds(ones: &[ValueKind], twos: &[ValueKind]) -> bool
+    ensures { result ≡ same_kinds ones.now twos.now }
+{
+    let (mut one, mut two) = (ones, twos);
+    'kinds: while let Some((first, ones)) = one.split_first() {
+        let Some((second, twos)) = two.split_first() else {
+            return false;
+        };
+        if !same_kind(*first, *second) {
+            return false;
+        }
+        one = ones;
+        two = twos;
+    }
+    two.is_empty()
+}
+
+fn same_type(one: &FuncType, two: &FuncType) -> bool
+    ensures { result ≡ (same_kinds one.now.params two.now.params && same_kinds one.now.results two.now.results) }
+{
+    same_kinds(one.params.as_slice(), two.params.as_slice())
+        && same_kinds(one.results.as_slice(), two.results.as_slice())
+}
+
+fn has_type(function: Option<Function<'_>>, wanted: Option<&FuncType>) -> bool
+    ensures { result ≡ has_type (option_map instance_of function.entry) (option_copied wanted.entry) }
+{
+    let Some(wanted) = wanted else {
+        return false;
+    };
+    match function {
+        Some(Function::Own { kind, .. }) => same_type(kind, wanted),
+        Some(Function::Host { kind, .. }) => same_type(kind, wanted),
+        Some(Function::Missing) | None => false,
+    }
+}
+
+/// The function that the table has at a place, if it is of the type that is named.
+fn element(functions: &Functions<'_>, wanted: u32, at: u32) -> Result<u32, TrapKind>
+    ensures { result ≡ element (program_of functions.now) wanted at }
+{
+    match functions.table.get(at as usize).copied() {
+        Some(Some(function)) => {
+            let kind = functions.types.get(wanted as usize);
+            if has_type(function_at(functions.all.as_slice(), function), kind) {
+                Ok(function)
+            } else {
+                Err(TrapKind::WrongType)
+            }
+        }
+        Some(None) | None => Err(TrapKind::NoElement),
+    }
+}
+
+/// Begins a frame for one of the module's functions.
+fn enter<'a, H: Host>(
+    thread: &mut Thread<'a>,
+    alloc: Global,
+    kind: &'a FuncType,
+    locals: u32,
+    body: &'a [Instr],
+) -> Result<Next<'a>, AllocError>
+    ensures own { IfOk result NotHostCall }
+    ensures leads { IfOk result (λ next. (program : Program) (w : H) (left last : ℕ) (outside : Outside) →
+        Leads H.meaning program
+        (after H.meaning program thread.old (own_at H.meaning program thread.old.free kind.entry.now locals (expression_of body.entry.now) (state_of thread.old.state w left last outside)))
+        next thread.new w left last outside) }
+{
+    let params = kind.params.len();
+    if thread.free == 0 {
+        return Ok(Next::CallDepth);
+    }
+    if thread.state.values.height() < params {
+        return Ok(Next::Trap(TrapKind::Unreachable));
+    }
+    let frame = Frame::Call {
+        kind: result_of(kind.results.as_slice()),
+        base: thread.state.values.below(),
+        locals: thread.state.values.local_count(),
+        free: thread.free,
+        rest: thread.code,
+    };
+    thread.frames.push(alloc, frame)?;
+    thread.state.values.enter(alloc, params, locals)?;
+    thread.code = body;
+    thread.free -= 1;
+    Ok(Next::Go)
+}
+
+/// Calls a function.
+pub(crate) fn call_function<'a, H: Host>(
+    thread: &mut Thread<'a>,
+    functions: &Functions<'a>,
+    alloc: Global,
+    at: u32,
+) -> Result<Next<'a>, AllocError>
+    ensures given { IfOk result (λ next. GivenAt (program_of functions.now) at next) }
+    ensures leads { IfOk result (λ next. (w : H) (left last : ℕ) (outside : Outside) →
+        let program = program_of functions.now in
+        Leads H.meaning program
+        (after H.meaning program thread.old (call H.meaning program thread.old.free at (state_of thread.old.state w left last outside)))
+        next thread.new w left last outside) }
+{
+    match function_at(functions.all.as_slice(), at) {
+        Some(Function::Own { kind, locals, body }) => {
+            enter::<H>(thread, alloc, kind, locals, body)
+        }
+        Some(Function::Host { kind, number }) => {
+            if !thread.state.values.holds(kind.params.as_slice()) {
+                return Ok(Next::Trap(TrapKind::Unreachable));
+            }
+            thread.state.values.push(alloc, 0)?;
+            Ok(Next::HostCall(kind, number))
+        }
+        Some(Function::Missing) => Ok(Next::Trap(TrapKind::Unreachable)),
+        None => Ok(Next::Trap(TrapKind::Unreachable)),
+    }
+}
+
+fn call_indirect<'a, H: Host>(
+    thread: &mut Thread<'a>,
+    functions: &Functions<'a>,
+    alloc: Global,
+    wanted: u32,
+) -> Result<Next<'a>, AllocError>
+    ensures { IfOk result (λ next. (w : H) (left last : ℕ) (outside : Outside) →
+        let program = program_of functions.now in
+        let s = state_of thread.old.state w left last outside in
+        Leads H.meaning program
+        (after H.meaning program thread.old (target (element program wanted (low (top (stack_of s)))) (call H.meaning program thread.old.free) (on_stack s (popped (stack_of s)))))
+        next thread.new w left last outside) }
+{
+    let at = low(thread.state.values.pop());
+    match element(functions, wanted, at) {
+        Ok(function) => call_function::<H>(thread, functions, alloc, function),
+        Err(kind) => Ok(Next::Trap(kind)),
+    }
+}
+
+/// Makes the memory grow, where the pages can be paid.
+fn grow<'a, H: Host>(
+    thread: &mut Thread<'a>,
+    alloc: Global,
+    left: &mut u64,
+) -> Result<Next<'a>, AllocError>
+    ensures falls { left.new ≤ left.old }
+    ensures leads { IfOk result (λ next. (program : Program) (w : H) (last : ℕ) (outside : Outside) →
+        let s = state_of thread.old.state w left.old last outside in
+        Leads H.meaning program
+        (after H.meaning program thread.old (grow (low (top (stack_of s))) (on_stack s (popped (stack_of s)))))
+        next thread.new w left.new last outside) }
+{
+    let pages = low(thread.state.values.pop());
+    let grows = pages <= thread.state.memory.most() - thread.state.memory.pages();
+    if grows && u64::from(pages) > *left {
+        *left = 0;
+        return Ok(Next::StepLimit);
+    }
+    let answer = thread.state.memory.grow(alloc, pages)?;
+    thread.state.values.push(alloc, u64::from(answer))?;
+    if grows {
+        *left -= u64::from(pages);
+    }
+    Ok(Next::Go)
+}
+
+fn label(labels: &[u32], last: u32, at: u32) -> u32
+    ensures { result ≡ slice_index_or labels.now at last }
+{
+    let at = at as usize;
+    if at < labels.len() { labels[at] } else { last }
+}
+
+fn chosen<'a>(test: u32, one: &'a [Instr], two: &'a [Instr]) -> &'a [Instr]
+    ensures { result ≡ (if test == 0 then two.entry else one.entry) }
+{
+    if test == 0 { two } else { one }
+}
+
+/// Executes an instruction whose step is paid; an `Err` is want of memory.
+pub(crate) fn act<'a, H: Host>(
+    thread: &mut Thread<'a>,
+    functions: &Functions<'a>,
+    alloc: Global,
+    instr: &'a Instr,
+    left: &mut u64,
+) -> Result<Next<'a>, AllocError>
+    ensures falls { left.new ≤ left.old }
+    ensures leads { IfOk result (λ next. (w : H) (last : ℕ) (outside : Outside) →
+        let program = program_of functions.now in
+        Leads H.meaning program
+        (whole H.meaning program thread.old (acts program (call H.meaning program thread.old.free) (put instr.entry.now (expression_of thread.old.code.now)) (state_of thread.old.state w left.old last outside)))
+        next thread.new w left.new last outside) }
+{
+    match shape_of(instr) {
+        Shape::Plain(op) => match plain(&mut thread.state, alloc, op)? {
+            None => Ok(Next::Go),
+            Some(kind) => Ok(Next::Trap(kind)),
+        },
+        Shape::Block(kind, body) => {
+            let height = thread.state.values.height();
+            let rest = thread.code;
+            thread
+                .frames
+                .push(alloc, Frame::Block { kind, height, rest })?;
+            thread.code = body;
+            Ok(Next::Go)
+        }
+        Shape::Loop(_, body) => {
+            let height = thread.state.values.height();
+            let rest = thread.code;
+            thread
+                .frames
+                .push(alloc, Frame::Loop { height, body, rest })?;
+            thread.code = body;
+            Ok(Next::Go)
+        }
+        Shape::If(kind, one, two) => {
+            let test = low(thread.state.values.pop());
+            let height = thread.state.values.height();
+            let rest = thread.code;
+            thread
+                .frames
+                .push(alloc, Frame::Block { kind, height, rest })?;
+            thread.code = chosen(test, one, two);
+            Ok(Next::Go)
+        }
+        Shape::Br(depth) => {
+            branch::<H>(thread, depth);
+            Ok(Next::Go)
+        }
+        Shape::BrIf(depth) => {
+            if low(thread.state.values.pop()) == 0 {
+                return Ok(Next::Go);
+            }
+            branch::<H>(thread, depth);
+            Ok(Next::Go)
+        }
+        Shape::BrTable(labels, last) => {
+            let at = low(thread.state.values.pop());
+            let depth = label(labels, last, at);
+            branch::<H>(thread, depth);
+            Ok(Next::Go)
+        }
+        Shape::Return => {
+            leave::<H>(thread);
+            Ok(Next::Go)
+        }
+        Shape::Call(function) => call_function::<H>(thread, functions, alloc, function),
+        Shape::CallIndirect(kind) => call_indirect::<H>(thread, functions, alloc, kind),
+        Shape::MemoryGrow => grow::<H>(thread, alloc, left),
+    }
+}

@@ -1,0 +1,146 @@
+//! The open bodies of a run, on one explicit stack.
+ghost use Rattle.std.specs.Prelude.{◌≡◌, ℕ, ◌∷◌, [], Option};
+ghost use Rattle.ante_wtree.specs.Expressions.{put, expression_of};
+ghost use Rattle.ante_wrun.specs.Meaning.{Outside, Program, Normal, Branch, Returned, does, call};
+ghost use Rattle.ante_wrun.specs.Machine.{state_of, under, whole, going, Finds};
+
+use crate::data::Data;
+use ante_stack::Stack;
+use ante_wmem::Host;
+use ante_wtree::{Instr, ValueKind};
+
+/// A body that isn't ended, with what is to be done after it.
+#[derive(Clone, Copy)]
+pub(crate) enum Frame<'a> {
+    Block {
+        kind: Option<ValueKind>,
+        height: usize,
+        rest: &'a [Instr],
+    },
+    Loop {
+        height: usize,
+        body: &'a [Instr],
+        rest: &'a [Instr],
+    },
+    /// Where the caller's locals begin and how many they are, and how many frames are free for it.
+    Call {
+        kind: Option<ValueKind>,
+        base: usize,
+        locals: usize,
+        free: u32,
+        rest: &'a [Instr],
+    },
+}
+
+/// What is left of the innermost body, and the bodies round it.
+#[derive(Drop)]
+pub(crate) struct Thread<'a> {
+    pub(crate) code: &'a [Instr],
+    pub(crate) frames: Stack<Frame<'a>>,
+    pub(crate) state: Data,
+    /// How many frames calls may still make.
+    pub(crate) free: u32,
+}
+
+/// Goes on after a body that ended, whose frame was taken off.
+pub(crate) fn resume<'a, H: Host>(thread: &mut Thread<'a>, frame: Frame<'a>)
+    ensures whole { (program : Program) (w : H) (left last : ℕ) (outside : Outside) →
+        under H.meaning program thread.old.free thread.old.state.values.below (frame.entry ∷ thread.old.frames) (Normal (state_of thread.old.state w left last outside))
+        ≡ going H.meaning program thread.new (state_of thread.new.state w left last outside) }
+    ensures frames { thread.new.frames ≡ thread.old.frames }
+{
+    match frame {
+        Frame::Block { rest, .. } => thread.code = rest,
+        Frame::Loop { rest, .. } => thread.code = rest,
+        Frame::Call {
+            kind,
+            base,
+            locals,
+            free,
+            rest,
+        } => {
+            thread.state.values.leave(kind, base, locals);
+            thread.free = free;
+            thread.code = rest;
+        }
+    }
+}
+
+/// The next instruction, or none where the last body has ended.
+pub(crate) fn next_instr<'a, H: Host>(thread: &mut Thread<'a>) -> Option<&'a Instr>
+    ensures { (program : Program) (w : H) (left last : ℕ) (outside : Outside) →
+        Finds H.meaning program (going H.meaning program thread.old (state_of thread.old.state w left last outside)) result thread.new (state_of thread.new.state w left last outside) }
+{
+    'bodies: loop {
+        if let Some((first, rest)) = thread.code.split_first() {
+            thread.code = rest;
+            return Some(first);
+        }
+        let Some(frame) = thread.frames.pop() else {
+            return None;
+        };
+        resume::<H>(thread, frame);
+    }
+}
+
+/// Branches to the label of a depth.
+pub(crate) fn branch<'a, H: Host>(thread: &mut Thread<'a>, depth: u32)
+    ensures { (program : Program) (w : H) (left last : ℕ) (outside : Outside) →
+        whole H.meaning program thread.old (Branch depth (state_of thread.old.state w left last outside))
+        ≡ going H.meaning program thread.new (state_of thread.new.state w left last outside) }
+{
+    let mut out = depth;
+    'frames: while let Some(frame) = thread.frames.top() {
+        match frame {
+            Frame::Block { kind, height, rest } => {
+                thread.frames.discard();
+                if out == 0 {
+                    thread.state.values.unwind(kind, height);
+                    thread.code = rest;
+                    return;
+                }
+            }
+            Frame::Loop { height, body, .. } => {
+                if out == 0 {
+                    thread.state.values.keep(height);
+                    thread.code = body;
+                    return;
+                }
+                thread.frames.discard();
+            }
+            Frame::Call {
+                kind,
+                base,
+                locals,
+                free,
+                rest,
+            } => {
+                thread.frames.discard();
+                thread.state.values.leave(kind, base, locals);
+                thread.free = free;
+                thread.code = rest;
+                return;
+            }
+        }
+        out -= 1;
+    }
+    thread.code = &[];
+}
+
+/// Returns from the function.
+pub(crate) fn leave<'a, H: Host>(thread: &mut Thread<'a>)
+    ensures { (program : Program) (w : H) (left last : ℕ) (outside : Outside) →
+        whole H.meaning program thread.old (Returned (state_of thread.old.state w left last outside))
+        ≡ going H.meaning program thread.new (state_of thread.new.state w left last outside) }
+{
+    'frames: while let Some(frame) = thread.frames.pop() {
+        match frame {
+            Frame::Block { .. } | Frame::Loop { .. } => {}
+            Frame::Call { .. } => {
+                resume::<H>(thread, frame);
+                return;
+            }
+        }
+    }
+    thread.code = &[];
+}
