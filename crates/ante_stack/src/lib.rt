@@ -1,7 +1,7 @@
 //! A stack as contracts see it: the list of its items with the topmost first.
 #![tactic(auto)]
 
-ghost use Rattle.std.specs.Prelude.{◌≡◌, ◌∷◌, [], length, slice_get, drop, OnOk, OnErr, OnSome, MatchOption};
+ghost use Rattle.std.specs.Prelude.{◌≡◌, ◌↔◌, ◌∷◌, [], length, slice_get, drop, IsTrue, OnOk, OnErr, MatchOption};
 ghost use Rattle.std.specs.Option.{option_copied};
 
 use std::alloc::{AllocError, Global};
@@ -39,6 +39,12 @@ impl<T> Stack<T> {
         self.items.as_slice().len()
     }
 
+    pub fn is_empty(&self) -> bool
+        ensures { IsTrue result ↔ (self.now ≡ []) }
+    {
+        self.items.as_slice().is_empty()
+    }
+
     /// Puts an item on top.
     pub fn push(&mut self, _alloc: Global, item: T) -> Result<(), AllocError>
     where
@@ -73,5 +79,27 @@ impl<T> Stack<T> {
         ensures { self.new ≡ drop 1 self.old }
     {
         let _ = self.items.pop();
+    }
+
+    /// Takes all items away.
+    pub fn clear(&mut self)
+    where
+        T: Drop,
+        ensures { self.new ≡ [] }
+    {
+        self.items.clear();
+    }
+
+    /// A copy of the item with this many above it, if there is one.
+    pub fn at(&self, depth: usize) -> Option<T>
+    where
+        T: Copy,
+        ensures { result ≡ slice_get self.now depth }
+    {
+        let count = self.items.as_slice().len();
+        if depth >= count {
+            return None;
+        }
+        self.items.get(count - 1 - depth).copied()
     }
 }

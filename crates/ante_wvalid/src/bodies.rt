@@ -7,7 +7,7 @@ ghost use Rattle.ante_wvalid.specs.State.{Carries, context_in, step_of};
 use crate::jumps::{call, call_by_table, grow, jump, jump_among, jump_if, leave, plain};
 use crate::known::Known;
 use crate::scope::{Scope, kinds};
-use crate::stack::Stack;
+use ante_stack::Stack;
 use ante_wtree::{Instr, Shape, ValueKind, shape_of};
 use std::alloc::{AllocError, Global};
 

@@ -8,7 +8,7 @@ ghost use Rattle.ante_wvalid.specs.Modules.{IsFunctionTyped, IsUntyped, first_of
 
 use crate::bodies::sequence;
 use crate::scope::{Scope, numbered};
-use crate::stack::Stack;
+use ante_stack::Stack;
 use ante_wtree::{Code, Instr, Module, ValueKind};
 use std::alloc::{AllocError, Global};
 

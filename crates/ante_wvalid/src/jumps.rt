@@ -5,7 +5,7 @@ ghost use Rattle.ante_wvalid.specs.State.{Carries, context_in};
 
 use crate::known::Known;
 use crate::scope::{Scope, Signature, function_type, kinds, numbered};
-use crate::stack::Stack;
+use ante_stack::Stack;
 use ante_wtree::{PlainInstr, ValueKind};
 use std::alloc::{AllocError, Global};
 

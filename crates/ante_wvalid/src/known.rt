@@ -2,7 +2,7 @@ ghost use Rattle.std.specs.Prelude.{◌≡◌, ◌↔◌, true, [], ◌∷◌, I
 ghost use Rattle.ante_wvalid.specs.Typing.{Operands, onto, Pops, Pushes, Turns, Anything, Dropped, Selected};
 ghost use Rattle.ante_wvalid.specs.State.{Of, Fits, Same, Carries};
 
-use crate::stack::Stack;
+use ante_stack::Stack;
 use ante_wtree::ValueKind;
 use std::alloc::{AllocError, Global};
 

@@ -11,7 +11,6 @@ pub mod laws;
 mod repeats;
 mod rules;
 mod scope;
-mod stack;
 mod valid;
 
 pub use kinds::{InvalidKind, ModuleRule, ValidateError};
