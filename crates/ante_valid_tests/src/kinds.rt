@@ -32,7 +32,7 @@ pub const BASE: Sketch = Sketch {
     segments: &[(Init::Const32(8), b"abc")],
 };
 
-pub const KINDS: [(&str, Sketch, Option<InvalidKind>); 17] = [
+pub const KINDS: [(&str, Sketch, Option<InvalidKind>); 9] = [
     ("the base", BASE, None),
     (
         "an import that is no function",
@@ -136,6 +136,9 @@ pub const KINDS: [(&str, Sketch, Option<InvalidKind>); 17] = [
         },
         Some(InvalidKind::Rule(ModuleRule::Bounds)),
     ),
+];
+
+pub const LATER_KINDS: [(&str, Sketch, Option<InvalidKind>); 8] = [
     (
         "a global of the other kind",
         Sketch {
@@ -219,7 +222,7 @@ pub const KINDS: [(&str, Sketch, Option<InvalidKind>); 17] = [
     ),
 ];
 
-pub const PAIRS: [(&str, Sketch, Option<InvalidKind>); 15] = [
+pub const PAIRS: [(&str, Sketch, Option<InvalidKind>); 8] = [
     (
         "an import that is no function, and an import of another module",
         Sketch {
@@ -359,6 +362,9 @@ pub const PAIRS: [(&str, Sketch, Option<InvalidKind>); 15] = [
         },
         Some(InvalidKind::Rule(ModuleRule::Bounds)),
     ),
+];
+
+pub const LATER_PAIRS: [(&str, Sketch, Option<InvalidKind>); 7] = [
     (
         "a global of the other kind, and an export of a global that is not there",
         Sketch {

@@ -10,7 +10,7 @@ const I: ValueKind = ValueKind::I32;
 
 const L: ValueKind = ValueKind::I64;
 
-pub const OTHERS: [(&str, Sketch, Option<InvalidKind>); 31] = [
+pub const IMPORTS: [(&str, Sketch, Option<InvalidKind>); 7] = [
     (
         "the empty module",
         Sketch {
@@ -100,6 +100,9 @@ pub const OTHERS: [(&str, Sketch, Option<InvalidKind>); 31] = [
         },
         None,
     ),
+];
+
+pub const LIMITS: [(&str, Sketch, Option<InvalidKind>); 9] = [
     (
         "at least more than at most",
         Sketch {
@@ -201,6 +204,9 @@ pub const OTHERS: [(&str, Sketch, Option<InvalidKind>); 31] = [
         },
         Some(InvalidKind::Rule(ModuleRule::GlobalInit)),
     ),
+];
+
+pub const FUNCTIONS: [(&str, Sketch, Option<InvalidKind>); 7] = [
     (
         "the last function is exported",
         Sketch {
@@ -270,6 +276,9 @@ pub const OTHERS: [(&str, Sketch, Option<InvalidKind>); 31] = [
         },
         Some(InvalidKind::Rule(ModuleRule::ElementIndex)),
     ),
+];
+
+pub const OTHERS: [(&str, Sketch, Option<InvalidKind>); 8] = [
     (
         "no table and no elements",
         Sketch {

@@ -1,5 +1,5 @@
-use super::kinds::{BASE, KINDS, PAIRS};
-use super::modules::OTHERS;
+use super::kinds::{BASE, KINDS, LATER_KINDS, LATER_PAIRS, PAIRS};
+use super::modules::{FUNCTIONS, IMPORTS, LIMITS, OTHERS};
 use super::sketch::{Row, Sketch, Step, code, function_type, module};
 use super::{blocks, ifs, straight, unreachable};
 use ante_pack::Seq;
@@ -130,7 +130,13 @@ fn modules_have_their_kinds(rt: HostRuntime) -> Result<(), Fail> {
     for (about, sketch, kind) in &KINDS {
         assert_eq!(rt; sketch_refusal(alloc, sketch)?, *kind, "{about}");
     }
-    for (about, sketch, kind) in &OTHERS {
+    Ok(())
+}
+
+#[test]
+fn modules_have_their_later_kinds(rt: HostRuntime) -> Result<(), Fail> {
+    let alloc = rt.alloc();
+    for (about, sketch, kind) in &LATER_KINDS {
         assert_eq!(rt; sketch_refusal(alloc, sketch)?, *kind, "{about}");
     }
     Ok(())
@@ -140,6 +146,51 @@ fn modules_have_their_kinds(rt: HostRuntime) -> Result<(), Fail> {
 fn the_earlier_of_two_kinds_is_named(rt: HostRuntime) -> Result<(), Fail> {
     let alloc = rt.alloc();
     for (about, sketch, kind) in &PAIRS {
+        assert_eq!(rt; sketch_refusal(alloc, sketch)?, *kind, "{about}");
+    }
+    Ok(())
+}
+
+#[test]
+fn the_earlier_of_two_later_kinds_is_named(rt: HostRuntime) -> Result<(), Fail> {
+    let alloc = rt.alloc();
+    for (about, sketch, kind) in &LATER_PAIRS {
+        assert_eq!(rt; sketch_refusal(alloc, sketch)?, *kind, "{about}");
+    }
+    Ok(())
+}
+
+#[test]
+fn imports_have_their_kinds(rt: HostRuntime) -> Result<(), Fail> {
+    let alloc = rt.alloc();
+    for (about, sketch, kind) in &IMPORTS {
+        assert_eq!(rt; sketch_refusal(alloc, sketch)?, *kind, "{about}");
+    }
+    Ok(())
+}
+
+#[test]
+fn limits_and_constants_have_their_kinds(rt: HostRuntime) -> Result<(), Fail> {
+    let alloc = rt.alloc();
+    for (about, sketch, kind) in &LIMITS {
+        assert_eq!(rt; sketch_refusal(alloc, sketch)?, *kind, "{about}");
+    }
+    Ok(())
+}
+
+#[test]
+fn exports_and_functions_have_their_kinds(rt: HostRuntime) -> Result<(), Fail> {
+    let alloc = rt.alloc();
+    for (about, sketch, kind) in &FUNCTIONS {
+        assert_eq!(rt; sketch_refusal(alloc, sketch)?, *kind, "{about}");
+    }
+    Ok(())
+}
+
+#[test]
+fn other_modules_have_their_kinds(rt: HostRuntime) -> Result<(), Fail> {
+    let alloc = rt.alloc();
+    for (about, sketch, kind) in &OTHERS {
         assert_eq!(rt; sketch_refusal(alloc, sketch)?, *kind, "{about}");
     }
     Ok(())
