@@ -1,5 +1,5 @@
 -- The digest of the state: the SHA-256 of its lists, one after the other, each in the order of its keys.
-use Rattle.std.specs.Prelude.{ℕ, ℤ, negsuc, List, [], ◌∷◌, ◌++◌, map, Option}
+use Rattle.std.specs.Prelude.{ℕ, ℤ, negsuc, List, [], ◌∷◌, ◌++◌, map}
 use Rattle.std.specs.Option.{unwrap_or}
 use Rattle.std.specs.FinMap.Entries.{find}
 use Rattle.sha2.specs.Sha256.{sha256}

@@ -67,8 +67,8 @@ fn feed_authority(hasher: &mut Sha256, authority: &Authority)
 }
 
 #[tactic(auto, using(crate::proofs::Fed::onto))]
-fn feed_table_key(hasher: &mut Sha256, key: &TableKey)
-    ensures { Feeds hasher.old hasher.new (entries.packed_table_key key.now) }
+fn feed_table_key(hasher: &mut Sha256, key: TableKey)
+    ensures { Feeds hasher.old hasher.new (entries.packed_table_key key) }
 {
     feed_name(hasher, key.code);
     feed_name(hasher, key.scope);
@@ -129,16 +129,17 @@ pub(crate) fn feed_recent(hasher: &mut Sha256, key: RecentKey)
 }
 
 #[tactic(auto, using(crate::proofs::Fed::onto))]
-pub(crate) fn feed_reference(hasher: &mut Sha256, low: u16, id: &Digest)
-    ensures { Feeds hasher.old hasher.new (entries.packed_reference (low, id.now)) }
+pub(crate) fn feed_reference(hasher: &mut Sha256, reference: (u16, Digest))
+    ensures { Feeds hasher.old hasher.new (entries.packed_reference reference) }
 {
+    let (low, id) = reference;
     feed_u16(hasher, low);
-    feed_digest(hasher, id);
+    feed_digest(hasher, &id);
 }
 
 #[tactic(auto, using(crate::proofs::Fed::onto))]
-pub(crate) fn feed_table(hasher: &mut Sha256, key: &TableKey, row: &TableRow)
-    ensures { Feeds hasher.old hasher.new (entries.packed_table (key.now, row.now)) }
+pub(crate) fn feed_table(hasher: &mut Sha256, key: TableKey, row: &TableRow)
+    ensures { Feeds hasher.old hasher.new (entries.packed_table (key, row.now)) }
 {
     feed_table_key(hasher, key);
     feed_name(hasher, row.payer);
@@ -146,10 +147,10 @@ pub(crate) fn feed_table(hasher: &mut Sha256, key: &TableKey, row: &TableRow)
 }
 
 #[tactic(auto, using(crate::proofs::Fed::onto))]
-pub(crate) fn feed_row(hasher: &mut Sha256, key: &RowKey, row: &PrimaryRow)
-    ensures { Feeds hasher.old hasher.new (entries.packed_row (key.now, row.now)) }
+pub(crate) fn feed_row(hasher: &mut Sha256, key: RowKey, row: &PrimaryRow)
+    ensures { Feeds hasher.old hasher.new (entries.packed_row (key, row.now)) }
 {
-    feed_table_key(hasher, &key.table);
+    feed_table_key(hasher, key.table);
     feed_u64(hasher, key.primary);
     feed_name(hasher, row.payer);
     feed_sized(hasher, row.bytes.as_slice());

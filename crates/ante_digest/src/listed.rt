@@ -15,6 +15,7 @@ use sha2::Sha256;
 /// A kind of entries that the digest lists.
 pub(crate) trait Listed {
     type Key: Ord + Copy;
+
     type Value;
 
     ghost entries: { Self → List (Self.Key × Self.Value) };
@@ -22,18 +23,14 @@ pub(crate) trait Listed {
     ghost packed: { Self.Key × Self.Value → List ℕ };
 
     /// The first key after the given one, or the first of all.
-    fn next_key(&self, after: Option<Self::Key>) -> Option<Self::Key>
-        ensures next { result ≡ option_map (λ e. e.0) (first_entry (past Self.Key.cmp after (entries self.now))) }
+    fn next_key(&self, after: &Option<Self::Key>) -> Option<Self::Key>
+        ensures next { result ≡ option_map (λ e. e.0) (first_entry (past Self.Key.cmp after.now (entries self.now))) }
         ensures ordered { IsTrue (is_sorted Self.Key.cmp (entries self.now)) };
 
     /// The same, and its entry is fed into the hasher.
-    fn feed_next(
-        &self,
-        after: Option<Self::Key>,
-        hasher: &mut Sha256,
-    ) -> Option<Self::Key>
-        ensures next { result ≡ option_map (λ e. e.0) (first_entry (past Self.Key.cmp after (entries self.now))) }
-        ensures fed { Feeds hasher.old hasher.new (piece_of packed (first_entry (past Self.Key.cmp after (entries self.now)))) }
+    fn feed_next(&self, after: &Option<Self::Key>, hasher: &mut Sha256) -> Option<Self::Key>
+        ensures next { result ≡ option_map (λ e. e.0) (first_entry (past Self.Key.cmp after.now (entries self.now))) }
+        ensures fed { Feeds hasher.old hasher.new (piece_of packed (first_entry (past Self.Key.cmp after.now (entries self.now)))) }
         ensures ordered { IsTrue (is_sorted Self.Key.cmp (entries self.now)) };
 }
 
@@ -48,10 +45,10 @@ fn count_of<L: Listed>(map: &L) -> u32
 {
     total_order::<L::Key>();
     let mut count: u32 = 0;
-    let mut at = map.next_key(None);
+    let mut at = map.next_key(&None);
     while at.is_some() {
         count = count.wrapping_add(1);
-        at = map.next_key(at);
+        at = map.next_key(&at);
     }
     count
 }
@@ -60,9 +57,9 @@ fn feed_entries<L: Listed>(hasher: &mut Sha256, map: &L)
     ensures { Feeds hasher.old hasher.new (flat_map L.packed (L.entries map.now)) }
 {
     total_order::<L::Key>();
-    let mut at = map.feed_next(None, hasher);
+    let mut at = map.feed_next(&None, hasher);
     while at.is_some() {
-        at = map.feed_next(at, hasher);
+        at = map.feed_next(&at, hasher);
     }
 }
 
