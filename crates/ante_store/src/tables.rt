@@ -40,9 +40,11 @@ pub trait Tables {
 }
 
 /// A store to write to.
+#[derive(Drop)]
 pub struct Writing<'a>(pub &'a mut Store);
 
 /// A store to read only.
+#[derive(Drop)]
 pub struct Reading<'a>(pub &'a Store);
 
 impl Tables for Writing<'_> {
