@@ -166,9 +166,10 @@ impl Usage {
         }
     }
 
-    /// Each account with an entry uses something or has a quota. The proof is all that this is for.
-    pub fn entries_are_counted(&self)
-        ensures { AllByRecursion (λ e. T (not (is_free e.1.used e.1.quota))) self.now.top }
+    /// Each account with an entry uses something or has a quota, and the accounts rise. The proof is all that this is for.
+    pub fn entries_hold(&self)
+        ensures counted { AllByRecursion (λ e. T (not (is_free e.1.used e.1.quota))) self.now.top }
+        ensures ordered { T (is_sorted ⟦<Name as Ord>⟧.cmp self.now.top) }
     {
         let _shares = &self.kept.inner.first;
     }

@@ -9,3 +9,4 @@ pub mod RowChanges
 pub mod QuotaChange
 pub mod Lengths
 pub mod RowsMade
+pub mod Shares

@@ -7,6 +7,7 @@ mod apply_rows;
 mod billing;
 mod bills;
 mod change;
+mod digest;
 mod laws;
 mod maps;
 mod parts;
