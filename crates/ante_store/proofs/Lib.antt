@@ -10,3 +10,4 @@ pub mod QuotaChange
 pub mod Lengths
 pub mod RowsMade
 pub mod Shares
+pub mod Founding

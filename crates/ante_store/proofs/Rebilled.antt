@@ -94,7 +94,7 @@ module _ (o : IsTotalOrder name_order) (exact : (a b : Name) → name_order a b 
 pays_all : (bill : Name × ℕ) → paid_by bill.0 bill ≡ bill.1
 pays_all bill = grind arith
 
-take_next : {X : Type 0} (xs : List X) (i : ℕ) (d : X) → i < length xs → take (i + 1) xs ≡ take i xs ++ slice_index_or xs i d ∷ []
+pub take_next : {X : Type 0} (xs : List X) (i : ℕ) (d : X) → i < length xs → take (i + 1) xs ≡ take i xs ++ slice_index_or xs i d ∷ []
 take_next xs i d lt = let next : i + 1 ≡ suc i = omega arith in ap (λ n. take n xs) next ∙ take-suc xs i d lt
 
 -- a top over a stack that differs from the first in its top alone

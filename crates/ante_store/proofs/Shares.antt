@@ -2,7 +2,6 @@
 use Rattle.std.proofs.Common.{◌≡◌, ℕ, ◌+◌, ◌==◌, ℤ, negsuc, Bool, true, false, true≢false, cond, not, ◌||◌, T, List, [], ◌∷◌, ◌++◌, map, Option, Some, None, is_some, refl, sym, ap, subst, ◌∙◌, arith, Ordering, Equal}
 use Rattle.std.specs.Ordering.{eq_by_cmp, int_eq}
 use Rattle.std.specs.Option.{unwrap_or}
-use Rattle.std.specs.Cmp.{IsTotalOrder}
 use Rattle.std.specs.List.{sum_by, list_any, AllByRecursion}
 use Rattle.std.specs.FinMap.Entries.{find, is_sorted, same_entries, is_some-find}
 use Rattle.std.proofs.lemmas.Bool.Decides.{Decides-int_eq}
@@ -16,6 +15,7 @@ use Rattle.ante_ram.specs.declared.parts.Share.{Share}
 use Rattle.ante_ram.specs.Usage.{used_of, quota_of, is_free, entry_of}
 use Rattle.ante_digest.specs.Digest.{quota, shares, usage_of}
 use Rattle.ante_store.specs.Bills.{limit, quotas_of}
+use Rattle.ante_store.proofs.KeyOrders.{names_total, names_exact}
 use Rattle.ante_store.proofs.Quotas.{tied, find_quotas}
 
 abbrev is_counted : Name × Share → Type 0
@@ -77,36 +77,35 @@ found q (e ∷ es) h = elim (eq_by_cmp name_order q e.0) as (λ b. cond b (Some 
   | false ↦ found q es h.1
 ]
 
-module _ (o : IsTotalOrder name_order) (exact : (a b : Name) → name_order a b ≡ Equal → a ≡ b) where
-  sorted_shares : (w : World) (names : List Name) → T (is_sorted name_order (shares w names))
-  sorted_shares w [] = tt
-  sorted_shares w (a ∷ names) = sorted_changed name_order o (shares w names) a (entry w a) (sorted_shares w names)
+sorted_shares : (w : World) (names : List Name) → T (is_sorted name_order (shares w names))
+sorted_shares w [] = tt
+sorted_shares w (a ∷ names) = sorted_changed name_order names_total (shares w names) a (entry w a) (sorted_shares w names)
 
-  find_shares : (w : World) (names : List Name) (q : Name) → find name_order q (shares w names) ≡ cond (is_named q names) (entry w q) None
-  find_shares w [] q = refl
-  find_shares w (a ∷ names) q =
-      find_changed name_order o (shares w names) a (entry w a) q
-      ∙ by_test (find_shares w names q) (eq_by_cmp name_order q a) refl
-    where
-      by_test : find name_order q (shares w names) ≡ cond (is_named q names) (entry w q) None → (b : Bool) → eq_by_cmp name_order q a ≡ b → cond b (entry w a) (find name_order q (shares w names)) ≡ cond (b || is_named q names) (entry w q) None
-      by_test rest true p = ap (entry w) (sym (exact q a (tied (name_order q a) p)))
-      by_test rest false p = rest
+find_shares : (w : World) (names : List Name) (q : Name) → find name_order q (shares w names) ≡ cond (is_named q names) (entry w q) None
+find_shares w [] q = refl
+find_shares w (a ∷ names) q =
+    find_changed name_order names_total (shares w names) a (entry w a) q
+    ∙ by_test (find_shares w names q) (eq_by_cmp name_order q a) refl
+  where
+    by_test : find name_order q (shares w names) ≡ cond (is_named q names) (entry w q) None → (b : Bool) → eq_by_cmp name_order q a ≡ b → cond b (entry w a) (find name_order q (shares w names)) ≡ cond (b || is_named q names) (entry w q) None
+    by_test rest true p = ap (entry w) (sym (names_exact q a (tied (name_order q a) p)))
+    by_test rest false p = rest
 
-  pub usage_is : (w : World) (m : List (Name × Share)) → T (is_sorted name_order m) → AllByRecursion is_counted m → ((a : Name) → used_of (find name_order a m) ≡ used w a) → quotas_of m ≡ w.quotas → m ≡ usage_of w
-  usage_is w m sorted counted is quotas = same_entries name_order o exact m (usage_of w) sorted (sorted_shares w names) (λ q. found q m counted ∙ parts q ∙ sym (find_shares w names q ∙ there q))
-    where
-      names : List Name
-      names = map (λ bill. bill.0) (bills w) ++ map (λ e. e.0) w.quotas
+pub usage_is : (w : World) (m : List (Name × Share)) → T (is_sorted name_order m) → AllByRecursion is_counted m → ((a : Name) → used_of (find name_order a m) ≡ used w a) → quotas_of m ≡ w.quotas → m ≡ usage_of w
+usage_is w m sorted counted is quotas = same_entries name_order names_total names_exact m (usage_of w) sorted (sorted_shares w names) (λ q. found q m counted ∙ parts q ∙ sym (find_shares w names q ∙ there q))
+  where
+    names : List Name
+    names = map (λ bill. bill.0) (bills w) ++ map (λ e. e.0) w.quotas
 
-      quota_is : (q : Name) → quota_of (find name_order q m) ≡ quota w q
-      quota_is q =
-          sym (limited (quota_of (find name_order q m))) ∙ ap (λ z. unwrap_or z (negsuc 0)) (sym (find_quotas name_order o q m sorted)) ∙ ap (λ es. unwrap_or (find name_order q es) (negsuc 0)) quotas
+    quota_is : (q : Name) → quota_of (find name_order q m) ≡ quota w q
+    quota_is q =
+        sym (limited (quota_of (find name_order q m))) ∙ ap (λ z. unwrap_or z (negsuc 0)) (sym (find_quotas name_order names_total q m sorted)) ∙ ap (λ es. unwrap_or (find name_order q es) (negsuc 0)) quotas
 
-      parts : (q : Name) → entry_of (used_of (find name_order q m)) (quota_of (find name_order q m)) ≡ entry w q
-      parts q = ap (λ n. entry_of n (quota_of (find name_order q m))) (is q) ∙ ap (entry_of (used w q)) (quota_is q)
+    parts : (q : Name) → entry_of (used_of (find name_order q m)) (quota_of (find name_order q m)) ≡ entry w q
+    parts q = ap (λ n. entry_of n (quota_of (find name_order q m))) (is q) ∙ ap (entry_of (used w q)) (quota_is q)
 
-      there : (q : Name) → cond (is_named q names) (entry w q) None ≡ entry w q
-      there q = elim (is_named q names) as (λ b. is_named q names ≡ b → cond b (entry w q) None ≡ entry w q) [
-        | true ↦ λ p. refl
-        | false ↦ λ p. sym (unnamed w q p)
-      ] refl
+    there : (q : Name) → cond (is_named q names) (entry w q) None ≡ entry w q
+    there q = elim (is_named q names) as (λ b. is_named q names ≡ b → cond b (entry w q) None ≡ entry w q) [
+      | true ↦ λ p. refl
+      | false ↦ λ p. sym (unnamed w q p)
+    ] refl

@@ -8,6 +8,7 @@ mod billing;
 mod bills;
 mod change;
 mod digest;
+mod genesis;
 mod laws;
 mod maps;
 mod parts;

@@ -1,6 +1,6 @@
 ghost use Rattle.std.specs.Prelude.{◌≡◌, ◌<◌, length, true, None, OnOk, OnErr, IfErr};
 ghost use Rattle.std.specs.FinMap.Entries.{find};
-ghost use Rattle.ante_undo.specs.Stack.{with_top, IsAbove};
+ghost use Rattle.ante_undo.specs.Stack.{opened, with_top, IsAbove};
 ghost use Rattle.ante_pack.specs.declared.names.Name.{Name};
 ghost use Rattle.ante_state.specs.Orders.{name_order};
 ghost use Rattle.ante_types.specs.World.{used};
@@ -17,7 +17,7 @@ use ante_ram::Usage;
 use ante_rows::Rows;
 use ante_sessions::{Kept, Sessions, Shape};
 use std::alloc::{AllocError, Global};
-use std::marker::Model;
+use std::marker::{Model, PhantomData};
 
 /// The world as contracts name it. None is ever made.
 #[derive(Drop)]
@@ -89,6 +89,20 @@ impl Store {
         ensures quotas { quotas_of result.now.top ≡ self.now.top.quotas }
     {
         &self.kept.inner.second
+    }
+
+    /// A store of these parts alone, at revision 1.
+    pub(crate) fn of_parts(parts: Parts) -> Store
+        requires base { parts ≡ opened parts.top 0 }
+        requires billed { IsBilled parts.top }
+        ensures { result ≡ opened (world_of parts.top) 1 }
+    {
+        Store {
+            kept: Kept {
+                inner: parts,
+                shape: PhantomData,
+            },
+        }
     }
 
     /// Makes the change in the newest session, or leaves all as it was.

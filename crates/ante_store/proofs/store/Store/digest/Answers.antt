@@ -1,6 +1,6 @@
-use Rattle.std.proofs.Common.{sym, ap, ◌∙◌}
+use Rattle.std.proofs.Common.{ap, ◌∙◌}
 use Rattle.sha2.specs.Sha256.{sha256}
-use Rattle.ante_digest.specs.Digest.{state_digest, packed_lists}
+use Rattle.ante_digest.specs.Digest.{packed_lists, state_digest}
 use Rattle.ante_store.proofs.Shares.{usage_is}
 use Rattle.ante_store.proofs.store.Store.digest.Goals as goal
 
@@ -8,7 +8,7 @@ pub returns : goal.returns
 unfolding state_digest
 returns c =
     let usage =
-    usage_is c.names_are_ordered.ensures.total c.names_are_ordered.ensures.exact c.args.self.now.top c.usage-usage.result.now.top c.entries_hold.ensures.ordered c.entries_hold.ensures.counted c.usage-usage.ensures.used
+    usage_is c.args.self.now.top c.usage-usage.result.now.top c.entries_hold.ensures.ordered c.entries_hold.ensures.counted c.usage-usage.ensures.used
     c.usage-usage.ensures.quotas in
     let o = c.objects.ensures in
     let r = c.rows.ensures in
