@@ -1,5 +1,5 @@
 -- The changes that build genesis put each entry after all that stand there.
-use Rattle.std.proofs.Common.{◌≡◌, ℕ, ◌+◌, ◌<◌, ◌≤◌, ◌^◌, ◌&&◌, Bool, true, false, T, List, [], ◌∷◌, ◌++◌, map, length, take, drop, slice_index_or, refl, sym, ap, subst, ◌∙◌, append_assoc, arith, Ordering, Less, Equal, Greater, is_lt}
+use Rattle.std.proofs.Common.{◌≡◌, ℕ, ◌+◌, ◌<◌, ◌≤◌, ◌^◌, ◌&&◌, Bool, true, false, T, List, [], ◌∷◌, ◌++◌, map, length, take, drop, slice_index_or, Some, refl, sym, ap, subst, ◌∙◌, append_assoc, arith, Ordering, Less, Equal, Greater, is_lt}
 use Rattle.std.specs.Ordering.{ordering_reverse, ordering_then, nat_cmp}
 use Rattle.std.specs.Cmp.{IsTotalOrder}
 use Rattle.std.specs.List.{flat_map, AllByRecursion}
@@ -12,15 +12,23 @@ use Rattle.ante_undo.proofs.Entries.{first, second, less}
 use Rattle.ante_undo.proofs.Lists.{all_append}
 use Rattle.ante_pack.specs.declared.names.Name.{Name}
 use Rattle.ante_pack.specs.declared.authority.Level.{Level}
+use Rattle.ante_pack.specs.Names.{number_of, name_number}
 use Rattle.ante_state.specs.Orders.{name_order, level_order}
 use Rattle.ante_state.specs.declared.objects.AccountRow.{AccountRow}
 use Rattle.ante_state.specs.declared.objects.PermissionRow.{PermissionRow}
 use Rattle.ante_types.specs.declared.chain.GenesisAccount.{GenesisAccount}
 use Rattle.ante_types.specs.World.{World}
+use Rattle.ante_store.specs.declared.change.Change.TheVariants as change
+use Rattle.ante_store.specs.Changes.{after}
+use Rattle.ante_store.specs.Applied.{IsMade}
 use Rattle.ante_store.specs.Genesis.{owner, active, no_name, account_of, permission_of, permissions_of, accounts_of, world_with, joined, Rises, Shows}
 use Rattle.ante_store.specs.Worlds.{Maps, world_of, IsBilled}
 use Rattle.ante_store.proofs.KeyOrders.{names_total, levels_total}
 use Rattle.ante_store.proofs.Rebilled.{take_next}
+
+both : (a b : Bool) → T a → T b → T (a && b)
+both true b p q = q
+both false b p q = p
 
 module _ {K V : Type 0} (cmp : K → K → Ordering) where
   -- each of these keys is below the key
@@ -35,10 +43,6 @@ module _ {K V : Type 0} (cmp : K → K → Ordering) where
   all_below : (es : List (K × V)) (y : K × V) → T (is_sorted cmp (es ++ y ∷ [])) → AreBelow y.0 es
   all_below [] y h = tt
   all_below (e ∷ es) y h = (last_above e.0 es y (first _ _ h), all_below es y (second _ _ h))
-
-  both : (a b : Bool) → T a → T b → T (a && b)
-  both true b p q = q
-  both false b p q = p
 
   front_below : (x : K) (es fs : List (K × V)) → T (below_all cmp x (es ++ fs)) → T (below_all cmp x es)
   front_below x [] fs h = tt
@@ -65,6 +69,7 @@ permissions_below (a ∷ accounts) k p h =
 
 -- one more account above all others, by the three changes
 pub one_joined : (accounts : List GenesisAccount) (a : GenesisAccount) → AreBelow name_order a.name (accounts_of accounts) → joined a (world_with accounts) ≡ world_with (accounts ++ a ∷ [])
+unfolding name_number number_of
 one_joined accounts a below =
     let before = flat_map permissions_of accounts in
     let lower = permission_of a.name active owner a.active in
@@ -84,9 +89,9 @@ next_above accounts i d lt rises =
     let a = slice_index_or accounts i d in
     let front : T (is_sorted name_order (accounts_of (take (i + 1) accounts))) =
     front_sorted name_order (accounts_of (take (i + 1) accounts)) (accounts_of (drop (i + 1) accounts))
-        (subst (λ (t : List (Name × AccountRow)). T (is_sorted name_order t)) (sym (ap accounts_of (take-append-drop (i + 1) accounts)) ∙ map-append account_of (take (i + 1) accounts) (drop (i + 1) accounts)) rises) in
+    (subst (λ (t : List (Name × AccountRow)). T (is_sorted name_order t)) (sym (ap accounts_of (take-append-drop (i + 1) accounts)) ∙ map-append account_of (take (i + 1) accounts) (drop (i + 1) accounts)) rises) in
     all_below name_order (accounts_of (take i accounts)) (account_of a)
-        (subst (λ (t : List (Name × AccountRow)). T (is_sorted name_order t)) (ap accounts_of (take_next accounts i d lt) ∙ map-append account_of (take i accounts) (a ∷ [])) front)
+    (subst (λ (t : List (Name × AccountRow)). T (is_sorted name_order t)) (ap accounts_of (take_next accounts i d lt) ∙ map-append account_of (take i accounts) (a ∷ [])) front)
 
 -- one turn of the loop over the accounts
 pub next_shown : (accounts : List GenesisAccount) (i : ℕ) (d : GenesisAccount) (m m2 : Maps) → i < length accounts → Rises accounts → Shows (take i accounts) m → world_of m2 ≡ joined (slice_index_or accounts i d) (world_of m) → IsBilled m2 → Shows (take (i + 1) accounts) m2
@@ -114,3 +119,15 @@ empty_shown = record {
     some = λ table. tt;
   };
 }
+
+-- the three changes, one after another
+pub all_joined : (a : GenesisAccount) (row : AccountRow) (lower upper : Level) (m m1 m2 m3 : Maps) → row ≡ (account_of a).1 → lower ≡ record { actor = a.name; permission = active } → upper ≡ record { actor = a.name; permission = owner } → IsMade (change.SetAccount a.name row) m m1
+    → IsMade (change.SetPermission lower (Some (record { parent = owner; authority = a.active }))) m1 m2 → IsMade (change.SetPermission upper (Some (record { parent = no_name; authority = a.owner }))) m2 m3 → world_of m3 ≡ joined a (world_of m)
+all_joined a row lower upper m m1 m2 m3 is lower_is upper_is first second third =
+    third.world
+    ∙ ap (λ level. after (change.SetPermission level (Some (record { parent = no_name; authority = a.owner }))) (world_of m2)) upper_is
+    ∙ ap (after (change.SetPermission (record { actor = a.name; permission = owner }) (Some (record { parent = no_name; authority = a.owner }))))
+    (second.world
+    ∙ ap (λ level. after (change.SetPermission level (Some (record { parent = owner; authority = a.active }))) (world_of m1)) lower_is
+    ∙ ap (after (change.SetPermission (record { actor = a.name; permission = active }) (Some (record { parent = owner; authority = a.active }))))
+    (first.world ∙ ap (λ row. after (change.SetAccount a.name row) (world_of m)) is))

@@ -70,5 +70,5 @@ pub record Shows (accounts : List GenesisAccount) (m : Maps) : Type 0 where
 abbrev pub joined : GenesisAccount → World → World
 joined a w =
     after (change.SetPermission (record { actor = a.name; permission = owner }) (Some (record { parent = no_name; authority = a.owner })))
-        (after (change.SetPermission (record { actor = a.name; permission = active }) (Some (record { parent = owner; authority = a.active })))
-            (after (change.SetAccount a.name (account_of a).1) w))
+    (after (change.SetPermission (record { actor = a.name; permission = active }) (Some (record { parent = owner; authority = a.active })))
+    (after (change.SetAccount a.name (account_of a).1) w))

@@ -1,7 +1,7 @@
 // The state that a chain begins with.
 ghost use Rattle.std.specs.Prelude.{◌≡◌, [], Some, IfOk, OnOk};
 ghost use Rattle.ante_undo.specs.Stack.{opened, with_top, IsAbove};
-ghost use Rattle.ante_types.specs.Chain.{genesis};
+ghost use Rattle.ante_types.specs.Chain as forms;
 ghost use Rattle.ante_types.specs.Genesis.{genesis_head};
 ghost use Rattle.ante_store.specs.declared.change.Change.TheVariants as change;
 ghost use Rattle.ante_store.specs.Genesis.{account_of, genesis_world, joined, Rises, Shows};
@@ -35,7 +35,7 @@ impl Store {
         packed: &[u8],
     ) -> Result<Store, AllocError>
         requires rises { Rises genesis.now.accounts }
-        requires packed { packed.now ≡ genesis.spell genesis.now }
+        requires packed { packed.now ≡ forms.genesis.spell genesis.now }
         ensures { IfOk result (λ store. store ≡ opened (genesis_world genesis.now) 1) }
     {
         let mut parts = empty_parts(alloc);
@@ -83,11 +83,7 @@ fn add_accounts(
     Ok(())
 }
 
-fn add_account(
-    alloc: Global,
-    parts: &mut Parts,
-    account: &GenesisAccount,
-) -> Result<(), AllocError>
+fn add_account(alloc: Global, parts: &mut Parts, account: &GenesisAccount) -> Result<(), AllocError>
     requires above { IsAbove 1 parts.old }
     requires billed { IsBilled parts.old.top }
     ensures world { OnOk result (world_of parts.new.top ≡ joined account.now (world_of parts.old.top)) }
@@ -166,7 +162,7 @@ fn copy_items<T: Copy>(alloc: Global, items: &Seq<T>) -> Result<Seq<T>, AllocErr
 
 // The id of genesis as block 1.
 fn genesis_id(genesis: &Genesis, packed: &[u8]) -> Digest
-    requires packed { packed.now ≡ genesis.spell genesis.now }
+    requires packed { packed.now ≡ forms.genesis.spell genesis.now }
     ensures { result ≡ (genesis_head genesis.now).id }
 {
     let header = Header {
