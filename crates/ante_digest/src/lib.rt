@@ -4,6 +4,7 @@
 mod digest;
 mod entries;
 mod feeding;
+pub mod laws;
 mod listed;
 mod lists;
 

@@ -1,6 +1,6 @@
 -- The changes that build genesis put each entry after all that stand there.
-use Rattle.std.proofs.Common.{◌≡◌, ℕ, ◌+◌, ◌<◌, ◌≤◌, ◌^◌, ◌&&◌, Bool, true, false, T, List, [], ◌∷◌, ◌++◌, map, length, take, drop, slice_index_or, Some, refl, sym, ap, subst, ◌∙◌, append_assoc, arith, Ordering, Less, Equal, Greater, is_lt}
-use Rattle.std.specs.Ordering.{ordering_reverse, ordering_then, nat_cmp}
+use Rattle.std.proofs.Common.{◌≡◌, ℕ, ◌+◌, ◌<◌, ◌&&◌, Bool, true, false, T, List, [], ◌∷◌, ◌++◌, length, take, drop, slice_index_or, Some, refl, sym, ap, subst, ◌∙◌, append_assoc, arith, Ordering, Less}
+use Rattle.std.specs.Ordering.{ordering_reverse, ordering_then}
 use Rattle.std.specs.Cmp.{IsTotalOrder}
 use Rattle.std.specs.List.{flat_map, AllByRecursion}
 use Rattle.std.specs.FinMap.Entries.{is_sorted, below_all, by_order}
@@ -15,9 +15,7 @@ use Rattle.ante_pack.specs.declared.authority.Level.{Level}
 use Rattle.ante_pack.specs.Names.{number_of, name_number}
 use Rattle.ante_state.specs.Orders.{name_order, level_order}
 use Rattle.ante_state.specs.declared.objects.AccountRow.{AccountRow}
-use Rattle.ante_state.specs.declared.objects.PermissionRow.{PermissionRow}
 use Rattle.ante_types.specs.declared.chain.GenesisAccount.{GenesisAccount}
-use Rattle.ante_types.specs.World.{World}
 use Rattle.ante_store.specs.declared.change.Change.TheVariants as change
 use Rattle.ante_store.specs.Changes.{after}
 use Rattle.ante_store.specs.Applied.{IsMade}

@@ -1,12 +1,11 @@
 -- The usage that the parts keep is what the world's bills and quotas give.
-use Rattle.std.proofs.Common.{◌≡◌, ℕ, ◌+◌, ◌==◌, ℤ, negsuc, Bool, true, false, true≢false, cond, not, ◌||◌, T, List, [], ◌∷◌, ◌++◌, map, Option, Some, None, is_some, refl, sym, ap, subst, ◌∙◌, arith, Ordering, Equal}
+use Rattle.std.proofs.Common.{◌≡◌, ℕ, ◌==◌, ℤ, negsuc, Bool, true, false, true≢false, cond, not, ◌||◌, T, List, [], ◌∷◌, ◌++◌, map, Option, Some, None, is_some, refl, sym, ap, ◌∙◌, arith}
 use Rattle.std.specs.Ordering.{eq_by_cmp, int_eq}
 use Rattle.std.specs.Option.{unwrap_or}
 use Rattle.std.specs.List.{sum_by, list_any, AllByRecursion}
 use Rattle.std.specs.FinMap.Entries.{find, is_sorted, same_entries, is_some-find}
 use Rattle.std.proofs.lemmas.Bool.Decides.{Decides-int_eq}
 use Rattle.std.proofs.lemmas.List.Sums.{sum_by-cons}
-use Rattle.ante_undo.specs.Entries.{changed}
 use Rattle.ante_undo.proofs.Entries.{find_changed, sorted_changed}
 use Rattle.ante_pack.specs.declared.names.Name.{Name}
 use Rattle.ante_state.specs.Orders.{name_order}
