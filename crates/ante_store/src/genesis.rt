@@ -1,8 +1,8 @@
 // The state that a chain begins with.
-ghost use Rattle.std.specs.Prelude.{◌≡◌, [], Some, IfOk, OnOk};
+ghost use Rattle.std.specs.Prelude.{◌≡◌, ◌==◌, [], Some, IfOk, OnOk};
 ghost use Rattle.ante_undo.specs.Stack.{opened, with_top, IsAbove};
 ghost use Rattle.ante_types.specs.Chain as forms;
-ghost use Rattle.ante_types.specs.Genesis.{genesis_head};
+ghost use Rattle.ante_types.specs.Genesis.{eosio, genesis_head};
 ghost use Rattle.ante_store.specs.declared.change.Change.TheVariants as change;
 ghost use Rattle.ante_store.specs.Genesis.{account_of, genesis_world, joined, Rises, Shows};
 ghost use Rattle.ante_store.specs.Worlds.{world_of, IsBilled};
@@ -133,10 +133,18 @@ fn account_row(alloc: Global, account: &GenesisAccount) -> Result<AccountRow, Al
     let code = Bytes::from_slice(alloc, account.code.as_slice())?;
     Ok(AccountRow {
         payer: account.name,
-        privileged: account.name == EOSIO,
+        privileged: is_system(account.name),
         code,
         abi: Bytes::new(alloc),
     })
+}
+
+// Whether it is the account of the system.
+#[tactic(auto, unfolding(ante_pack::specs::Names::name_number, ante_pack::specs::Names::number_of))]
+fn is_system(name: Name) -> bool
+    ensures { result ≡ (name.0 == eosio.0) }
+{
+    name == EOSIO
 }
 
 fn copy_authority(alloc: Global, authority: &Authority) -> Result<Authority, AllocError>

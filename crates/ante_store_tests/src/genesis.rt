@@ -22,6 +22,7 @@ fn authority(alloc: Global) -> Result<Authority, AllocError>
     })
 }
 
+#[tactic(auto, unfolding(ante_types::specs::Genesis::builtin_genesis, ante_pack::specs::Names::name_number, ante_pack::specs::Names::number_of))]
 fn builtin(alloc: Global) -> Result<Genesis, AllocError>
     ensures { IfOk result (λ genesis. genesis ≡ builtin_genesis) }
 {
@@ -45,6 +46,7 @@ fn builtin(alloc: Global) -> Result<Genesis, AllocError>
     })
 }
 
+#[tactic(auto, unfolding(ante_types::specs::Genesis::builtin_genesis, ante_pack::specs::Names::name_number, ante_pack::specs::Names::number_of))]
 pub(crate) fn builtin_store(alloc: Global) -> Result<Store, AllocError>
     ensures { IfOk result (λ store. store.shelf ≡ None) }
 {
@@ -59,8 +61,8 @@ fn the_builtin_genesis_has_its_usage_and_its_digest(rt: HostRuntime) -> Result<(
     let store = builtin_store(alloc)?;
     assert_eq!(rt; store.usage().used(EOSIO), 3446);
     let digest = hex::encode(alloc, store.digest())?;
-    assert_eq!(
-        rt; digest.as_str(),
+    assert_eq!(rt;
+        digest.as_str(),
         "2ce368f2ef319052e28ad822db5d59e334ff0876b08f166c39921fc2b3906939",
     );
     Ok(())

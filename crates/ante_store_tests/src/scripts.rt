@@ -1,7 +1,6 @@
 // Scripts, with what each step answers, what the accounts 1 and 2 use after it, and the digest's first eight bytes.
-use crate::changes::Step;
 use crate::changes::Step::*;
-use crate::changes::set_recent;
+use crate::changes::{Step, set_recent};
 use crate::genesis::builtin_store;
 use crate::trial::Trial;
 use ante_sessions::Sessions;
@@ -9,8 +8,8 @@ use ante_store::{Reading, Tables, WriteError, Writing};
 use std::alloc::{AllocError, Global};
 use std::process::Abort;
 
-fn answer(text: &mut String, result: Result<(), WriteError>) -> Result<(), AllocError> {
-    match result {
+fn write_answer(text: &mut String, answer: Result<(), WriteError>) -> Result<(), AllocError> {
+    match answer {
         Ok(()) => text.push_str("ok "),
         Err(fault) => write!(text, "{fault:?} "),
     }
@@ -20,8 +19,8 @@ fn check(rt: &impl Abort, alloc: Global, script: &[(Step, &str)]) -> Result<(), 
     let mut trial = Trial::new(alloc)?;
     for (step, wanted) in script {
         let mut text = String::new(alloc);
-        if let Some(result) = trial.call(alloc, *step)? {
-            answer(&mut text, result)?;
+        if let Some(answer) = trial.call(alloc, *step)? {
+            write_answer(&mut text, answer)?;
         }
         trial.write_state(alloc, &mut text)?;
         assert_eq!(rt; text.as_str(), *wanted, "{step:?}");
@@ -119,7 +118,9 @@ fn accounts_permissions_and_links_are_billed(rt: HostRuntime) -> Result<(), Allo
 }
 
 #[test]
-fn quotas_recent_transactions_and_references_cost_nothing(rt: HostRuntime) -> Result<(), AllocError> {
+fn quotas_recent_transactions_and_references_cost_nothing(
+    rt: HostRuntime,
+) -> Result<(), AllocError> {
     check(&rt, rt.alloc(), &OTHERS)
 }
 
