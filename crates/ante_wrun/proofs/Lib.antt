@@ -4,3 +4,5 @@ pub mod Signs
 pub mod Bodies
 pub mod Calls
 pub mod Turning
+pub mod Rules
+pub mod Masks
