@@ -6,3 +6,6 @@ pub mod Calls
 pub mod Turning
 pub mod Rules
 pub mod Masks
+pub mod Counts
+pub mod Soundness
+pub mod Starts

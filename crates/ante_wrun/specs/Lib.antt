@@ -5,3 +5,4 @@ pub mod Machine
 pub mod Control
 pub mod Runs
 pub mod Turns
+pub mod Soundness
