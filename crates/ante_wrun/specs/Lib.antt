@@ -5,3 +5,6 @@ pub mod Machine
 pub mod Control
 pub mod Runs
 pub mod Turns
+pub mod Instances
+pub mod Running
+pub mod Made

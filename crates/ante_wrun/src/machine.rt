@@ -1,0 +1,194 @@
+//! The public call.
+ghost use Rattle.std.specs.Prelude.{◌≡◌, ℕ, [], reverse, Ok, None, IfOk};
+ghost use Rattle.ante_wtree.specs.Trees.{tree_of};
+ghost use Rattle.ante_wvalid.specs.Modules.{IsValid};
+ghost use Rattle.ante_wrun.specs.Meaning.{Outside};
+ghost use Rattle.ante_wrun.specs.Machine.{state_of};
+ghost use Rattle.ante_wrun.specs.Control.{program_of};
+ghost use Rattle.ante_wrun.specs.Runs.{Begins, past, ByEvents, MayCall, MayBelow, IsHosts};
+ghost use Rattle.ante_wrun.specs.Turns.{RunLeads};
+ghost use Rattle.ante_wrun.specs.Instances.{program_in};
+ghost use Rattle.ante_wrun.specs.Running.{most_frames, called_with, start_runs, both_run, run_of, RunAnswers, AnswersTyped};
+
+use crate::control::Functions;
+use crate::ends::{RunEnd, TrapKind};
+use crate::instance::{Instance, apply_index, instantiate};
+use crate::run::invoke;
+use crate::thread::Thread;
+use crate::values::ValueStack;
+use ante_base::Stop;
+use ante_stack::Stack;
+use ante_wmem::Host;
+use ante_wtree::Module;
+use ante_wvalid::ValidModule;
+use std::alloc::{AllocError, Global};
+
+#[tactic(auto, unfolding(crate::specs::Running::most_frames))]
+fn most_frames() -> u32
+    ensures { result ≡ most_frames }
+{
+    250
+}
+
+/// These values as operands, the last one topmost.
+fn operands(alloc: Global, args: &[u64]) -> Result<ValueStack, AllocError>
+    ensures { IfOk result (λ values. values ≡ record { below = []; locals = []; stack = reverse args.now }) }
+{
+    let mut values = ValueStack::new(alloc);
+    let mut rest = args;
+    'args: while let Some((value, tail)) = rest.split_first() {
+        values.push(alloc, *value)?;
+        rest = tail;
+    }
+    Ok(values)
+}
+
+/// Calls a function with these arguments, in a frame of its own.
+fn call_with<'a, H: Host, P: Stop>(
+    thread: &mut Thread<'a>,
+    functions: &Functions<'a>,
+    alloc: Global,
+    host: &mut H,
+    stop: &mut P,
+    left: &mut u64,
+    last: &mut u64,
+    function: u32,
+    args: &[u64],
+) -> Result<Option<RunEnd<H::Refusal>>, AllocError>
+    requires below { MayBelow H.allowed (program_of functions.now) host.old left.old }
+    requires here { IsHosts (program_of functions.now) function → MayCall H.allowed (program_of functions.now) host.old left.old }
+    ensures leads { let program = program_of functions.now in
+        ByEvents P.may stop.old stop.new (λ events. (outside : Outside) → Begins outside events →
+        RunLeads H.stands (called_with H.meaning program args.now function (state_of thread.old.state host.old left.old last.old outside))
+        result thread.new host.new left.new last.new (past outside events)) }
+    ensures allowed { result ≡ Ok None → MayBelow H.allowed (program_of functions.now) host.new left.new }
+{
+    thread.state.values = operands(alloc, args)?;
+    thread.code = &[];
+    thread.frames = Stack::new(alloc);
+    thread.free = most_frames();
+    invoke(thread, functions, alloc, host, stop, left, last, function)
+}
+
+/// Calls the start function, where there is one.
+fn call_start<'a, H: Host, P: Stop>(
+    thread: &mut Thread<'a>,
+    functions: &Functions<'a>,
+    alloc: Global,
+    host: &mut H,
+    stop: &mut P,
+    left: &mut u64,
+    last: &mut u64,
+    start: Option<u32>,
+) -> Result<Option<RunEnd<H::Refusal>>, AllocError>
+    requires below { MayBelow H.allowed (program_of functions.now) host.old left.old }
+    requires here { MayCall H.allowed (program_of functions.now) host.old left.old }
+    ensures leads { let program = program_of functions.now in
+        ByEvents P.may stop.old stop.new (λ events. (outside : Outside) → Begins outside events →
+        RunLeads H.stands (start_runs H.meaning program start (state_of thread.old.state host.old left.old last.old outside))
+        result thread.new host.new left.new last.new (past outside events)) }
+    ensures allowed { result ≡ Ok None → MayBelow H.allowed (program_of functions.now) host.new left.new }
+{
+    match start {
+        Some(function) => call_with(
+            thread, functions, alloc, host, stop, left, last, function, &[],
+        ),
+        None => Ok(None),
+    }
+}
+
+/// Calls the start function and then `apply`.
+fn call_both<'a, H: Host, P: Stop>(
+    thread: &mut Thread<'a>,
+    functions: &Functions<'a>,
+    alloc: Global,
+    host: &mut H,
+    stop: &mut P,
+    left: &mut u64,
+    module: &Module,
+    args: &[u64],
+) -> Result<RunEnd<H::Refusal>, AllocError>
+    requires valid { IsValid (tree_of module.now) }
+    requires program { program_of functions.now ≡ program_in (tree_of module.now) }
+    requires allowed { MayCall H.allowed (program_in (tree_of module.now)) host.old left.old }
+    ensures { ByEvents P.may stop.old stop.new (λ events. (outside : Outside) → Begins outside events →
+        RunAnswers H.stands (both_run H.meaning (program_in (tree_of module.now)) (tree_of module.now) args.now (state_of thread.old.state host.old left.old left.old outside))
+        result host.new left.new (past outside events)) }
+{
+    let mut last = *left;
+    let started = call_start(
+        thread,
+        functions,
+        alloc,
+        host,
+        stop,
+        left,
+        &mut last,
+        module.start,
+    )?;
+    if let Some(end) = started {
+        return Ok(end);
+    }
+    let Some(apply) = apply_index(module) else {
+        return Ok(RunEnd::Trap(TrapKind::Unreachable));
+    };
+    match call_with(
+        thread, functions, alloc, host, stop, left, &mut last, apply, args,
+    )? {
+        Some(end) => Ok(end),
+        None => Ok(RunEnd::Done),
+    }
+}
+
+/// What runs contracts. It keeps nothing between runs.
+#[derive(Clone, Copy, PartialEq, Eq, Debug)]
+pub struct Machine;
+
+impl Machine {
+    pub fn new() -> Machine {
+        Machine
+    }
+
+    /// Makes an instance of the module, calls its start function, where there is one, and then its `apply` with three
+    /// arguments. `left` are the steps that may be taken; they never rise. Looks at the stop each time that the steps left,
+    /// in rounds of 1,024, have come into a lower round. A segment that doesn't fit is a trap before anything runs.
+    ///
+    /// After want of memory and after a cut, the host and `left` are as the last instruction done, or the host's own
+    /// refused call, left them.
+    pub fn run<H: Host, P: Stop>(
+        &mut self,
+        alloc: Global,
+        module: &ValidModule,
+        args: [u64; 3],
+        host: &mut H,
+        stop: &mut P,
+        left: &mut u64,
+    ) -> Result<RunEnd<H::Refusal>, AllocError>
+        requires allowed { MayCall H.allowed (program_in (tree_of module.now)) host.old left.old }
+        requires answers { AnswersTyped H.allowed H.meaning (program_in (tree_of module.now)) }
+        ensures ends { ByEvents P.may stop.old stop.new (λ events. (outside : Outside) → Begins outside events →
+            RunAnswers H.stands (run_of H.meaning (tree_of module.now) args host.old left.old outside) result host.new left.new (past outside events)) }
+    {
+        let module = module.module();
+        let Some(instance) = instantiate(alloc, module)? else {
+            return Ok(RunEnd::Trap(TrapKind::OutOfBounds));
+        };
+        let Instance { functions, data } = instance;
+        let mut thread = Thread {
+            code: &[],
+            frames: Stack::new(alloc),
+            state: data,
+            free: 0,
+        };
+        call_both(
+            &mut thread,
+            &functions,
+            alloc,
+            host,
+            stop,
+            left,
+            module,
+            &args,
+        )
+    }
+}
