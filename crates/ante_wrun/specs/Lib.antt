@@ -7,4 +7,4 @@ pub mod Runs
 pub mod Turns
 pub mod Instances
 pub mod Running
-pub mod Made
+pub mod Parts
