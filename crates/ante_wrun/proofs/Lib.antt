@@ -9,3 +9,8 @@ pub mod Masks
 pub mod Counts
 pub mod Soundness
 pub mod Starts
+pub mod Making
+pub mod Reached
+pub mod Whole
+pub mod Programs
+pub mod Safe

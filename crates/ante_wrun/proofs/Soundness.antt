@@ -18,7 +18,8 @@ use Rattle.ante_wrun.specs.Meaning.{FunctionInstance, Own, Given, Missing, Progr
 use Rattle.ante_wrun.specs.Control.{IsGiven}
 use Rattle.ante_wrun.specs.Runs.{MayCall, MayBelow, IsHosts, NotStuck}
 use Rattle.ante_wrun.specs.Turns.{Replies}
-use Rattle.ante_wrun.specs.Soundness.{IsOf, HasKind, IsTyped, AnswersTyped}
+use Rattle.ante_wrun.specs.Soundness.{IsOf, HasKind, IsTyped}
+use Rattle.ante_wrun.specs.Running.{IsReplyOf, AnswersTyped}
 use Rattle.ante_wrun.proofs.Counts.{Counts, counts, onto_length}
 use Rattle.ante_wrun.proofs.Masks.{arguments_length, mask_fits}
 
@@ -417,10 +418,19 @@ module _ {W R : Type 0} (allowed : W → ℕ → List ℕ → ℕ → Type 0) (m
 
 -- ---- functions
 
-module _ {W R : Type 0} (host : HostMeaning W R) (allowed : W → ℕ → List ℕ → ℕ → Type 0) (m : Tree) (program : Program) (typed : IsTyped m program) (answers : AnswersTyped host allowed program)
+module _ {W R : Type 0} (host : HostMeaning W R) (allowed : W → ℕ → List ℕ → ℕ → Type 0) (m : Tree) (program : Program) (typed : IsTyped m program) (answers : AnswersTyped allowed host program)
     (keeps : (w : W) (number : ℕ) (args : List ℕ) (memory : LinearMemory) (left : ℕ) → allowed w number args left → Keeps allowed w left (host w number args memory left).reply (host w number args memory left).left) where
   abbrev Called : (locals globals count : ℕ) → Outcome W R → Type 0
   Called l g k o = Fine allowed program l g (λ n count. ⊥) (λ count. ⊥) k o
+
+  replies_as : (results : List ValueKind) (r : Reply W R) → IsReplyOf (result_of results) r → Replies results r
+  replies_as [] (value n w memory) h = absurd h
+  replies_as (k ∷ ks) (value n w memory) h = refl
+  replies_as [] (nothing w memory) h = refl
+  replies_as (k ∷ ks) (nothing w memory) h = absurd h
+  replies_as results (exit w memory) h = tt
+  replies_as results (refused r) h = tt
+  replies_as results step_limit h = tt
 
   none_given : (kinds : List ValueKind) → gives_none kinds ≡ true → length kinds ≡ 0
   none_given [] e = refl
@@ -463,7 +473,7 @@ module _ {W R : Type 0} (host : HostMeaning W R) (allowed : W → ℕ → List �
 
       by_supply : (b : Bool) → Called (length s.values.locals) (length s.values.globals) (below + length kind.results) (host_supplied b number args (of_reply kind.results number args (drop (length kind.params) (stack_of s)) o.reply o.left s) s)
       by_supply true = tt
-      by_supply false = by_reply o.reply o.left (answers kind number args s.world s.values.memory s.left (f, found) fits allow) (keeps s.world number args s.values.memory s.left allow)
+      by_supply false = by_reply o.reply o.left (replies_as kind.results o.reply (answers kind number args s.world s.values.memory s.left (f, found) fits allow)) (keeps s.world number args s.values.memory s.left allow)
 
   module _ (r : Option ValueKind) (locals operands : List ℕ) (l g k : ℕ) (count : k ≡ length operands + arity r) where
     back_fine : (s : State W) → Fit allowed program l g s.left s → arity r ≤ length (stack_of s) → Called (length locals) g k (back r locals operands s)

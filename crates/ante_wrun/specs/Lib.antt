@@ -6,3 +6,6 @@ pub mod Control
 pub mod Runs
 pub mod Turns
 pub mod Soundness
+pub mod Instances
+pub mod Running
+pub mod Parts

@@ -1,15 +1,11 @@
--- When a program is that of a typed module, and what is known of its host's replies.
+-- When a program is that of a typed module.
 use Rattle.std.specs.Prelude.{◌≡◌, ℕ, ◌≤◌, true, List, [], length, slice_get, Option, Some}
-use Rattle.ante_wmem.specs.Linear.{LinearMemory}
-use Rattle.ante_wmem.specs.HostCalls.{HostMeaning}
 use Rattle.ante_wtree.specs.declared.instructions.ValueKind.{ValueKind}
 use Rattle.ante_wtree.specs.declared.modules.FuncType.{FuncType}
 use Rattle.ante_wtree.specs.Trees.{Tree}
 use Rattle.ante_wvalid.specs.Typing.{Typed, kinds_of, type_numbered}
 use Rattle.ante_wvalid.specs.Modules.{function_types, first_of, context_of}
-use Rattle.ante_wrun.specs.Meaning.{FunctionInstance, Own, Given, Missing, Program, all_fit}
-use Rattle.ante_wrun.specs.Control.{IsGiven}
-use Rattle.ante_wrun.specs.Turns.{Replies}
+use Rattle.ante_wrun.specs.Meaning.{FunctionInstance, Own, Given, Missing, Program}
 
 -- A function of this type: an own one has a typed body, and as many locals as this was typed with.
 abbrev pub IsOf : Tree → FunctionInstance → FuncType → Type 0
@@ -28,8 +24,3 @@ pub record IsTyped (m : Tree) (program : Program) : Type 0 where
   pub results : (n : ℕ) (t : FuncType) → slice_get m.types n ≡ Some t → length t.results ≤ 1
   pub functions : (f : ℕ) (t : FuncType) → HasKind m f t → (i : FunctionInstance) × (slice_get program.functions f ≡ Some i) × IsOf m i t
   pub table : (at f : ℕ) → slice_get program.table at ≡ Some (Some f) → (t : FuncType) × HasKind m f t
-
--- Wherever the host's condition holds of an import and arguments of its kinds, the host replies as the import's type says.
-abbrev pub AnswersTyped : {W R : Type 0} → HostMeaning W R → (allowed : W → ℕ → List ℕ → ℕ → Type 0) → Program → Type 0
-AnswersTyped {W} {R} host allowed program = (kind : FuncType) (number : ℕ) (args : List ℕ) (w : W) (memory : LinearMemory) (left : ℕ) →
-    IsGiven program kind number → all_fit kind.params args ≡ true → allowed w number args left → Replies kind.results (host w number args memory left).reply
