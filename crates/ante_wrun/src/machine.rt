@@ -156,9 +156,7 @@ fn call_apply<'a, H: Host, P: Stop>(
     let Some(apply) = apply_index(module) else {
         return Ok(RunEnd::Trap(TrapKind::Unreachable));
     };
-    match call_with(
-        state, functions, alloc, host, stop, left, last, apply, args,
-    )? {
+    match call_with(state, functions, alloc, host, stop, left, last, apply, args)? {
         Called::Returned(_) => Ok(RunEnd::Done),
         Called::Ended(end) => Ok(end),
     }
@@ -184,9 +182,7 @@ fn call_both<'a, H: Host, P: Stop>(
 {
     let mut last = *left;
     let start = module.start;
-    match call_start(
-        state, functions, alloc, host, stop, left, &mut last, start,
-    )? {
+    match call_start(state, functions, alloc, host, stop, left, &mut last, start)? {
         Called::Returned(state) => call_apply(
             state, functions, alloc, host, stop, left, &mut last, module, args,
         ),
