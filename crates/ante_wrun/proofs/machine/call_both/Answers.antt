@@ -10,8 +10,8 @@ use Rattle.ante_wrun.specs.Parts.{CallLeads}
 use Rattle.ante_wrun.proofs.Turning.{more_events}
 use Rattle.ante_wrun.proofs.machine.call_both.Goals as goal
 
-pub returns-in-Returned : goal.returns-in-Returned
-returns-in-Returned g c =
+pub returns-in-Returned-clause-ends : goal.returns-in-Returned-clause-ends
+returns-in-Returned-clause-ends g c =
     let P = program_of c.args.functions.now in
     let m = tree_of c.args.module.now in
     let h = c.in_ok-state.ensures.leads in
@@ -24,4 +24,4 @@ returns-in-Returned g c =
       λ v b. ap (λ o. and_then o (apply_runs g.H.Host.meaning P (apply_in m) c.args.args.now))
           (subst (λ x. CallLeads g.H.Host.stands (start_runs g.H.Host.meaning P c.args.module.now.start (state_of c.args.state c.args.host.now c.args.left.now c.args.left.now v)) (Ok x) c.call_start.new.host c.call_start.new.left c.call_start.new.last (past v h.0)) c.in-Returned.is (h.2 v b)),
     )
-    c.call_apply.ensures
+    c.call_apply.ensures.ends

@@ -1,4 +1,4 @@
-use Rattle.std.proofs.Common.{◌≡◌}
+use Rattle.std.proofs.Common.{◌≡◌, ◌≤◌}
 use Rattle.ante_wrun.specs.Meaning.{Outside}
 use Rattle.ante_wrun.specs.Machine.{state_of, going}
 use Rattle.ante_wrun.specs.Control.{program_of}
@@ -10,7 +10,7 @@ invariant-turns g l =
     ByEvents g.P.Stop.may l.fn.stop l.stop (λ events. (v : Outside) → Begins v events →
     going g.H.Host.meaning (program_of l.functions) l.fn.thread (state_of l.fn.thread.state l.fn.host l.fn.left l.fn.last v)
     ≡ going g.H.Host.meaning (program_of l.functions) l.thread (state_of l.thread.state l.host l.left l.last (past v events)))
-    × MayBelow g.H.Host.allowed (program_of l.functions) l.host l.left
+    × MayBelow g.H.Host.allowed (program_of l.functions) l.host l.left × (l.left ≤ l.fn.left)
 
 abbrev pub decreases-turns : goal.decreases-turns
 decreases-turns g l = l.left
