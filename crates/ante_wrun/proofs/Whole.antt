@@ -16,7 +16,7 @@ use Rattle.ante_wrun.specs.Effects.{Values}
 use Rattle.ante_wrun.specs.declared.machine.Called.{Called}
 use Rattle.ante_wrun.specs.Parts.{CallLeads}
 use Rattle.ante_wrun.specs.Frames.{FrameValues}
-use Rattle.ante_wrun.specs.Meaning.{Outside, after_look, after_item, after_call, Program, State, Outcome, Normal, Branch, Returned, Ended, Lacks, InHost, Stuck, supplied, settled, and_then, call, invoked}
+use Rattle.ante_wrun.specs.Meaning.{Outside, after_look, after_item, after_call, Program, State, Outcome, Normal, Branch, Returned, Ended, Lacks, InHost, Stuck, supplied, and_then, invoked}
 use Rattle.ante_wrun.specs.Machine.{state_of}
 use Rattle.ante_wrun.specs.Runs.{Event, Looked, Supplied, CallSupplied, looks_of, Begins, past, ByEvents, Wanting, Ends, Lacking}
 use Rattle.ante_wrun.specs.Running.{most_frames, called_with, outset_of, where_fit, both_run, run_of, RunAnswers, CountsLooks, NeverAsks, EndsSo}

@@ -14,7 +14,6 @@ use Rattle.ante_wtree.specs.declared.modules.Init.{Init}
 use Rattle.ante_wtree.specs.declared.modules.Init.TheVariants as init
 use Rattle.ante_wtree.specs.declared.modules.ExportKind.{ExportKind}
 use Rattle.ante_wtree.specs.declared.modules.ExportKind.TheVariants as export
-use Rattle.ante_wtree.specs.declared.modules.Export.{Export}
 use Rattle.ante_wtree.specs.declared.modules.Element.{Element}
 use Rattle.ante_wtree.specs.declared.modules.Segment.{Segment}
 use Rattle.ante_wtree.specs.Intrinsics.{names}

@@ -65,6 +65,10 @@ RunAnswers stands o (Err e) w left outside = Wanting outside → Lacking stands 
 abbrev pub CountsLooks : (old new : Option ℕ) → (before after : Outside) → Type 0
 CountsLooks old new before after = Rises (after.looks - before.looks) old new
 
+-- the last look asked the run to stop, and told this moment
+abbrev pub AskedAt : {S : Type 0} → (may : S → Option ℕ → S → Type 0) → (at : ℕ) → (new : S) → Type 0
+AskedAt {S} may at new = (old : S) × may old (Some at) new
+
 -- ---- a run that nothing from the outside ends
 
 -- there is always memory, and no look asks the run to stop

@@ -1,5 +1,5 @@
 //! The public call.
-ghost use Rattle.std.specs.Prelude.{◌≡◌, ℕ, [], length, reverse, IfOk};
+ghost use Rattle.std.specs.Prelude.{◌≡◌, ℕ, ◌≤◌, [], length, reverse, Ok, IfOk};
 ghost use Rattle.ante_wtree.specs.Trees.{tree_of};
 ghost use Rattle.ante_wvalid.specs.Modules.{IsValid};
 ghost use Rattle.ante_wrun.specs.Meaning.{Outside};
@@ -7,7 +7,7 @@ ghost use Rattle.ante_wrun.specs.Machine.{state_of};
 ghost use Rattle.ante_wrun.specs.Control.{program_of};
 ghost use Rattle.ante_wrun.specs.Runs.{Begins, past, ByEvents, Sound, MayCall, MayBelow, IsHosts};
 ghost use Rattle.ante_wrun.specs.Instances.{program_in, apply_in};
-ghost use Rattle.ante_wrun.specs.Running.{most_frames, called_with, start_runs, apply_runs, both_run, run_of, RunAnswers, CountsLooks, NeverAsks, EndsSo, undisturbed, AnswersTyped};
+ghost use Rattle.ante_wrun.specs.Running.{most_frames, called_with, start_runs, apply_runs, both_run, run_of, RunAnswers, CountsLooks, NeverAsks, EndsSo, undisturbed, AskedAt, AnswersTyped};
 ghost use Rattle.ante_wrun.specs.Parts.{OnReturn, CallLeads};
 
 use crate::control::Functions;
@@ -72,6 +72,8 @@ fn call_with<'a, H: Host, P: Stop>(
         CallLeads H.stands (called_with H.meaning program args.now function (state_of state host.old left.old last.old outside))
         result host.new left.new last.new (past outside events)) }
     ensures allowed { IfOk result (λ called. OnReturn called (MayBelow H.allowed (program_of functions.now) host.new left.new)) }
+    ensures cut { (at : ℕ) → result ≡ Ok (Called.Ended (RunEnd.Cut at)) → AskedAt P.may at stop.new }
+    ensures falls { left.new ≤ left.old }
 {
     let values = operands(alloc, args)?;
     let mut thread = Thread {
@@ -119,6 +121,8 @@ fn call_start<'a, H: Host, P: Stop>(
         CallLeads H.stands (start_runs H.meaning program start (state_of state host.old left.old last.old outside))
         result host.new left.new last.new (past outside events)) }
     ensures allowed { IfOk result (λ called. OnReturn called (MayBelow H.allowed (program_of functions.now) host.new left.new)) }
+    ensures cut { (at : ℕ) → result ≡ Ok (Called.Ended (RunEnd.Cut at)) → AskedAt P.may at stop.new }
+    ensures falls { left.new ≤ left.old }
 {
     match start {
         Some(function) => call_with(
@@ -152,16 +156,16 @@ fn call_apply<'a, H: Host, P: Stop>(
     requires program { program_of functions.now ≡ program_in (tree_of module.now) }
     requires below { MayBelow H.allowed (program_of functions.now) host.old left.old }
     requires sound { Sound (λ outside. apply_runs H.meaning (program_of functions.now) (apply_in (tree_of module.now)) args.now (state_of state host.old left.old last.old outside)) }
-    ensures { ByEvents P.may stop.old stop.new (λ events. (outside : Outside) → Begins outside events →
+    ensures cut { (at : ℕ) → result ≡ Ok (RunEnd.Cut at) → AskedAt P.may at stop.new }
+    ensures falls { left.new ≤ left.old }
+    ensures ends { ByEvents P.may stop.old stop.new (λ events. (outside : Outside) → Begins outside events →
         RunAnswers H.stands (apply_runs H.meaning (program_of functions.now) (apply_in (tree_of module.now)) args.now (state_of state host.old left.old last.old outside))
         result host.new left.new (past outside events)) }
 {
     let Some(apply) = apply_index(module) else {
         unreachable!()
     };
-    match call_with(
-        state, functions, alloc, host, stop, left, last, apply, args,
-    )? {
+    match call_with(state, functions, alloc, host, stop, left, last, apply, args)? {
         Called::Returned(_) => Ok(RunEnd::Done),
         Called::Ended(end) => Ok(end),
     }
@@ -184,15 +188,15 @@ fn call_both<'a, H: Host, P: Stop>(
     requires answers { AnswersTyped H.allowed H.meaning (program_in (tree_of module.now)) }
     requires globals { length state.globals.items ≡ length module.now.globals }
     requires arguments { length args.now ≡ 3 }
-    ensures { ByEvents P.may stop.old stop.new (λ events. (outside : Outside) → Begins outside events →
+    ensures cut { (at : ℕ) → result ≡ Ok (RunEnd.Cut at) → AskedAt P.may at stop.new }
+    ensures falls { left.new ≤ left.old }
+    ensures ends { ByEvents P.may stop.old stop.new (λ events. (outside : Outside) → Begins outside events →
         RunAnswers H.stands (both_run H.meaning (program_of functions.now) (tree_of module.now) args.now (state_of state host.old left.old left.old outside))
         result host.new left.new (past outside events)) }
 {
     let mut last = *left;
     let start = module.start;
-    match call_start(
-        state, functions, alloc, host, stop, left, &mut last, start,
-    )? {
+    match call_start(state, functions, alloc, host, stop, left, &mut last, start)? {
         Called::Returned(state) => call_apply(
             state, functions, alloc, host, stop, left, &mut last, module, args,
         ),
@@ -213,7 +217,9 @@ fn run_module<H: Host, P: Stop>(
     requires allowed { MayCall H.allowed (program_in (tree_of module.now)) host.old left.old }
     requires answers { AnswersTyped H.allowed H.meaning (program_in (tree_of module.now)) }
     requires arguments { length args.now ≡ 3 }
-    ensures { ByEvents P.may stop.old stop.new (λ events. (outside : Outside) → Begins outside events →
+    ensures cut { (at : ℕ) → result ≡ Ok (RunEnd.Cut at) → AskedAt P.may at stop.new }
+    ensures falls { left.new ≤ left.old }
+    ensures ends { ByEvents P.may stop.old stop.new (λ events. (outside : Outside) → Begins outside events →
         RunAnswers H.stands (run_of H.meaning (tree_of module.now) args.now host.old left.old outside) result host.new left.new (past outside events)) }
 {
     let Some(instance) = instantiate(alloc, module)? else {
@@ -253,6 +259,10 @@ impl Machine {
         ensures ends { ByEvents P.may stop.old stop.new (λ events. (outside : Outside) → Begins outside events →
             RunAnswers H.stands (run_of H.meaning (tree_of module.now) args host.old left.old outside) result host.new left.new (past outside events)
             × CountsLooks (P.looks stop.old) (P.looks stop.new) outside (past outside events)) }
+        ensures cut { (at : ℕ) → result ≡ Ok (RunEnd.Cut at) → AskedAt P.may at stop.new }
+        ensures falls { left.new ≤ left.old }
+
+        // Where no look asks the run to stop.
         ensures undisturbed { NeverAsks P.may → IfOk result (λ end. EndsSo H.stands end host.new left.new (run_of H.meaning (tree_of module.now) args host.old left.old undisturbed)) }
     {
         run_module(alloc, module.module(), &args, host, stop, left)

@@ -8,6 +8,7 @@ ghost use Rattle.ante_wrun.specs.Machine.{state_of, going, after};
 ghost use Rattle.ante_wrun.specs.Control.{program_of};
 ghost use Rattle.ante_wrun.specs.Runs.{Begins, past, ByEvents, Sound, MayCall, MayBelow, IsHosts};
 ghost use Rattle.ante_wrun.specs.Turns.{Replies, MayLook, look_of, Pays, HostLeads, TurnLeads, RunLeads};
+ghost use Rattle.ante_wrun.specs.Running.{AskedAt};
 
 use crate::control::{Functions, Next, act, call_function};
 use crate::ends::RunEnd;
@@ -96,6 +97,7 @@ fn host_call<'a, H: Host>(
     ensures after { StaysAllowed H.allowed host.old left.old host.new left.new }
     ensures falls { left.new ≤ left.old }
     ensures early { result ≡ HostNext.Ended RunEnd.Done → ⊥ }
+    ensures uncut { (at : ℕ) → result ≡ HostNext.Ended (RunEnd.Cut at) → ⊥ }
 {
     let count = kind.params.len();
     thread.state.values.mask(kind.params.as_slice());
@@ -140,6 +142,8 @@ fn turn<'a, H: Host, P: Stop>(
     ensures sound { result ≡ Ok Progress.Go → Sound (λ outside. going H.meaning (program_of functions.now) thread.new (state_of thread.new.state host.new left.new last.new outside)) }
     ensures over { result ≡ Ok Progress.Over → MayBelow H.allowed (program_of functions.now) host.new left.new }
     ensures early { result ≡ Ok (Progress.Ended RunEnd.Done) → ⊥ }
+    ensures cut { (at : ℕ) → result ≡ Ok (Progress.Ended (RunEnd.Cut at)) → AskedAt P.may at stop.new }
+    ensures sinks { left.new ≤ left.old }
 {
     let instr = match next_instr::<H>(thread) {
         Some(instr) => instr,
@@ -185,6 +189,8 @@ fn run_thread<'a, H: Host, P: Stop>(
         result thread.new host.new left.new last.new (past outside events)) }
     ensures allowed { result ≡ Ok None → MayBelow H.allowed (program_of functions.now) host.new left.new }
     ensures early { result ≡ Ok (Some RunEnd.Done) → ⊥ }
+    ensures cut { (at : ℕ) → result ≡ Ok (Some (RunEnd.Cut at)) → AskedAt P.may at stop.new }
+    ensures sinks { left.new ≤ left.old }
 {
     'turns: loop {
         match turn(thread, functions, alloc, host, stop, left, last) {
@@ -217,6 +223,8 @@ pub(crate) fn invoke<'a, H: Host, P: Stop>(
         result thread.new host.new left.new last.new (past outside events)) }
     ensures allowed { result ≡ Ok None → MayBelow H.allowed (program_of functions.now) host.new left.new }
     ensures early { result ≡ Ok (Some RunEnd.Done) → ⊥ }
+    ensures cut { (at : ℕ) → result ≡ Ok (Some (RunEnd.Cut at)) → AskedAt P.may at stop.new }
+    ensures sinks { left.new ≤ left.old }
 {
     match call_function::<H>(thread, functions, alloc, function) {
         Ok(Next::Go) => run_thread(thread, functions, alloc, host, stop, left, last),

@@ -16,18 +16,21 @@ below_from : {W : Type 0} (allowed : W → ℕ → List ℕ → ℕ → Type 0) 
     ((w : W) (number : ℕ) (args : List ℕ) (left less : ℕ) → less ≤ left → allowed w number args left → allowed w number args less) → (w : W) (left : ℕ) → MayCall allowed P w left → MayBelow allowed P w left
 below_from allowed P lower w left h = λ less lt kind number args given fit. let le : less ≤ left = omega (arith, lt) in lower w number args left less le (h kind number args given fit)
 
-pub returns-in-Returned : goal.returns-in-Returned
-returns-in-Returned g c =
+pub returns-in-Returned-clause-ends : goal.returns-in-Returned-clause-ends
+returns-in-Returned-clause-ends g c =
     let P = program_of c.args.functions.now in
     let m = tree_of c.args.module.now in
     let h = c.in_ok-state.ensures.leads in
     more_events g.P.Stop.may c.args.stop.now c.call_start.new.stop c.call_apply.new.stop
     (λ v. both_run g.H.Host.meaning P m c.args.args.now (state_of c.args.state c.args.host.now c.args.left.now c.args.left.now v))
     (λ u. apply_runs g.H.Host.meaning P (apply_in m) c.args.args.now (state_of c.in-Returned.state c.call_start.new.host c.call_start.new.left c.call_start.new.last u))
-    (λ o u. RunAnswers g.H.Host.stands o c.call_apply.result c.call_apply.new.host c.call_apply.new.left u)
-    (h.0, h.1, λ v b. ap (λ o. and_then o (apply_runs g.H.Host.meaning P (apply_in m) c.args.args.now))
-    (subst (λ x. CallLeads g.H.Host.stands (start_runs g.H.Host.meaning P c.args.module.now.start (state_of c.args.state c.args.host.now c.args.left.now c.args.left.now v)) (Ok x) c.call_start.new.host c.call_start.new.left c.call_start.new.last (past v h.0)) c.in-Returned.is (h.2 v b)))
-    c.call_apply.ensures
+    (λ o u. RunAnswers g.H.Host.stands o c.call_apply.result c.call_apply.new.host c.call_apply.new.left u) (
+      h.0,
+      h.1,
+      λ v b. ap (λ o. and_then o (apply_runs g.H.Host.meaning P (apply_in m) c.args.args.now))
+          (subst (λ x. CallLeads g.H.Host.stands (start_runs g.H.Host.meaning P c.args.module.now.start (state_of c.args.state c.args.host.now c.args.left.now c.args.left.now v)) (Ok x) c.call_start.new.host c.call_start.new.left c.call_start.new.last (past v h.0)) c.in-Returned.is (h.2 v b)),
+    )
+    c.call_apply.ensures.ends
 
 pub call_start-requires-clause-sound : goal.call_start-requires-clause-sound
 call_start-requires-clause-sound g c =

@@ -1,4 +1,4 @@
-use Rattle.std.proofs.Common.{◌≡◌}
+use Rattle.std.proofs.Common.{◌≡◌, ◌≤◌}
 use Rattle.ante_wrun.specs.Meaning.{Outside}
 use Rattle.ante_wrun.specs.Machine.{state_of, going}
 use Rattle.ante_wrun.specs.Control.{program_of}
@@ -12,6 +12,7 @@ invariant-turns g l =
     ≡ going g.H.Host.meaning (program_of l.functions) l.thread (state_of l.thread.state l.host l.left l.last (past v events)))
     × MayBelow g.H.Host.allowed (program_of l.functions) l.host l.left
     × Sound (λ outside. going g.H.Host.meaning (program_of l.functions) l.thread (state_of l.thread.state l.host l.left l.last outside))
+    × (l.left ≤ l.fn.left)
 
 abbrev pub decreases-turns : goal.decreases-turns
 decreases-turns g l = l.left

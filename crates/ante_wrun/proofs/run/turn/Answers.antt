@@ -1,4 +1,4 @@
-use Rattle.std.proofs.Common.{◌≡◌, ◌<◌, [], ◌∷◌, length, refl, sym, subst, ◌∙◌, arith}
+use Rattle.std.proofs.Common.{◌≡◌, ◌<◌, Some, [], ◌∷◌, length, refl, sym, subst, ◌∙◌, arith}
 use Rattle.ante_wrun.specs.declared.ends.RunEnd.TheVariants as end
 use Rattle.ante_wrun.specs.Effects.{popped}
 use Rattle.ante_wrun.specs.Meaning.{after_call, arguments, masked, on_stack}
@@ -8,6 +8,7 @@ use Rattle.ante_wrun.specs.Runs.{CallSupplied, Wanting, Ends, Lacking, NotStuck}
 use Rattle.ante_wrun.proofs.Turning.{first_of, sound_turn, answered, turn_by, limit_by, cut_by, lack_by, stops_ends, some_outside}
 use Rattle.ante_wrun.proofs.Rules.{first_runs, inner}
 use Rattle.ante_wrun.proofs.Masks.{masked_fit}
+use Rattle.ante_wrun.specs.Turns.{MayLook}
 use Rattle.ante_wrun.proofs.run.turn.Goals as goal
 
 pub returns-in-StepLimit-clause-leads : goal.returns-in-StepLimit-clause-leads
@@ -19,6 +20,11 @@ pub returns-in-Cut-clause-leads : goal.returns-in-Cut-clause-leads
 returns-in-Cut-clause-leads g c =
     let P = program_of c.args.functions.now in
     cut_by g.H.Host.meaning g.H.Host.stands P g.P.Stop.may c.args.stop.now c.pay.new.stop c.args.host.now c.args.thread.now c.next_instr.new.thread c.in-Some.instr c.args.left.now c.args.last.now (λ v. c.in-Some.ensures P c.args.host.now c.args.left.now c.args.last.now v) c.pay.new.left c.in-Cut.at c.in-Cut.ensures.steps.0 c.in-Cut.ensures.steps.1 c.in-Cut.ensures.look
+
+pub returns-in-Cut-clause-cut : goal.returns-in-Cut-clause-cut
+returns-in-Cut-clause-cut g c = λ at e.
+    let is : c.in-Cut.at ≡ at = cc in
+    (c.args.stop.now, subst (λ n. g.P.Stop.may c.args.stop.now (Some n) c.pay.new.stop) is (subst (λ b. MayLook g.P.Stop.may b c.args.stop.now (Some c.in-Cut.at) c.pay.new.stop) c.in-Cut.ensures.steps.0 c.in-Cut.ensures.look))
 
 pub returns-in-None-clause-leads : goal.returns-in-None-clause-leads
 returns-in-None-clause-leads g c =
