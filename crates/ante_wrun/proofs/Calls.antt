@@ -2,7 +2,7 @@
 use Rattle.std.proofs.Common.{◌≡◌, ℕ, zero, suc, ◌<◌, ◌≤◌, Bool, true, false, List, [], ◌∷◌, ◌++◌, length, take, drop, reverse, replicate, map, Option, None, Some, Result, Ok, Err, IfOk, refl, sym, ap, ◌∙◌, arith}
 use Rattle.std.specs.Prelude.{slice_get, nat_lt, nat_le, if◌then◌else◌}
 use Rattle.std.specs.Option.{option_map}
-use Rattle.std.proofs.lemmas.Bool.{lt-ltb, ltb-true, leb-true}
+use Rattle.std.proofs.lemmas.Bool.{ltb-true, leb-true}
 use Rattle.std.proofs.lemmas.List.{reverse-reverse}
 use Rattle.std.proofs.Math.Seq.{take-append_seam, drop-append_seam}
 use denote.Bor.{Bor}
@@ -14,7 +14,6 @@ use Rattle.ante_wtree.specs.declared.modules.FuncType.{FuncType}
 use Rattle.ante_wtree.specs.Expressions.{Expression, expression_of}
 use Rattle.ante_wrun.specs.declared.ends.RunEnd.{RunEnd}
 use Rattle.ante_wrun.specs.declared.ends.RunEnd.TheVariants as end
-use Rattle.ante_wrun.specs.declared.ends.TrapKind.TheVariants as trap
 use Rattle.ante_wrun.specs.declared.data.Data.{Data}
 use Rattle.ante_wrun.specs.declared.thread.Frame.{Frame}
 use Rattle.ante_wrun.specs.declared.thread.Frame.TheVariants as frame
@@ -23,7 +22,7 @@ use Rattle.ante_wrun.specs.declared.control.Next.{Next as After}
 use Rattle.ante_wrun.specs.declared.control.Next.TheVariants as next
 use Rattle.ante_wrun.specs.declared.ends.TrapKind.{TrapKind}
 use Rattle.ante_wrun.specs.Effects.{Effect, Next, Traps, NoRule, popped}
-use Rattle.ante_wrun.specs.Meaning.{Outside, Program, FunctionInstance, State, Outcome, Ended, and_then, of_function, chosen, of_block, call_own, on_stack, stack_of, result_of, arguments, pay_pages, grow_if, grow, grown_by, does, call}
+use Rattle.ante_wrun.specs.Meaning.{Outside, Program, FunctionInstance, State, Outcome, Ended, and_then, of_function, chosen, of_block, on_stack, result_of, arguments, pay_pages, grow_if, grow, grown_by, does, call}
 use Rattle.ante_wrun.specs.Frames.{FrameValues, InCall, unwind}
 use Rattle.ante_wrun.specs.Machine.{opens, under, values_of, Does}
 use Rattle.ante_wrun.specs.Control.{instance_of, own_at, Takes, Stops, NotHostCall, GivenAt}

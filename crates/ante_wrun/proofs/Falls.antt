@@ -1,6 +1,6 @@
 -- No code raises the steps left, and a branch has lowered them: so a loop's turns are never too few.
 use Rattle.std.proofs.Common.{◌≡◌, ℕ, zero, suc, ◌+◌, ◌<◌, ◌≤◌, Bool, true, false, List, [], ◌∷◌, length, drop, Option, None, Some, Result, Ok, Err, refl, ap, arith}
-use Rattle.std.specs.Prelude.{◌==◌, not, nat_lt, nat_le, slice_get}
+use Rattle.std.specs.Prelude.{◌==◌, not, nat_le, slice_get}
 use Rattle.ante_wmem.specs.Linear.{LinearMemory, may_grow}
 use Rattle.ante_wmem.specs.HostCalls.{Reply, value, nothing, exit, refused, step_limit, HostMeaning}
 use Rattle.ante_wtree.specs.declared.instructions.ValueKind.{ValueKind}

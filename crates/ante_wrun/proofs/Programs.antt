@@ -1,7 +1,7 @@
 -- The program of a valid module is typed. Validity says what doesn't hold, so this is shown of what can't be otherwise.
 use Rattle.std.proofs.Common.{◌≡◌, ℕ, zero, suc, ◌+◌, ◌<◌, ◌≤◌, Bool, true, false, nat_lt, cond, List, [], ◌∷◌, ◌++◌, length, take, drop, replicate, get_or, Option, None, Some, slice_get, refl, sym, ap, subst, ◌∙◌, arith, ⊎_elim, inl, inr, lt-ltb, append_assoc}
 use Rattle.std.specs.Prelude.{map, fold}
-use Rattle.std.specs.List.{Any, zip, position_or_len}
+use Rattle.std.specs.List.{Any, position_or_len}
 use Rattle.std.specs.Str.{bytes_eq}
 use Rattle.std.proofs.lemmas.Bool.{cases_lt}
 use Rattle.std.proofs.lemmas.Slice.Eq.{bytes_eq-Decides}
@@ -18,10 +18,10 @@ use Rattle.ante_wtree.specs.Trees.{Tree, Body}
 use Rattle.ante_wvalid.specs.declared.kinds.ModuleRule.TheVariants as rule
 use Rattle.ante_wvalid.specs.declared.kinds.InvalidKind.TheVariants as invalid
 use Rattle.ante_wvalid.specs.Typing.{Typed, kinds_of, type_numbered}
-use Rattle.ante_wvalid.specs.Modules.{IsValid, IsFunctionTyped, HasHostType, IsKnown, imported, function_of, function_types, first_of, context_of}
-use Rattle.ante_wrun.specs.Meaning.{FunctionInstance, Own, Given, Missing}
-use Rattle.ante_wrun.specs.Instances.{host_place, given, given_as, given_functions, own, own_functions, offset_of, empty_table, placed, with_element, program_in}
-use Rattle.ante_wrun.specs.Soundness.{IsOf, HasKind, IsTyped}
+use Rattle.ante_wvalid.specs.Modules.{IsValid, IsFunctionTyped, imported, function_of, function_types, first_of, context_of}
+use Rattle.ante_wrun.specs.Meaning.{FunctionInstance, Own, Given}
+use Rattle.ante_wrun.specs.Instances.{host_place, given, given_as, given_functions, own, own_functions, offset_of, empty_table, with_element, program_in}
+use Rattle.ante_wrun.specs.Soundness.{IsOf, IsTyped}
 
 -- ---- lists
 
@@ -72,10 +72,14 @@ module _ (m : Tree) (valid : IsValid m) where
     where
       by_type : (o : Option FuncType) → slice_get m.types n ≡ o → (t : FuncType) × (slice_get m.types n ≡ Some t)
       by_type (Some t) q = (t, q)
-      by_type None q = absurd (valid (invalid.ImportType k) (i, at, λ h.
-          let same : h.0 ≡ n = number_is h.0 n (sym h.3 ∙ e) in
-          let there : slice_get m.types n ≡ Some h.1 = ap (slice_get m.types) (sym same) ∙ h.4 in
-          cc))
+      by_type None q = absurd (valid (invalid.ImportType k) (
+        i,
+        at,
+        λ h.
+            let same : h.0 ≡ n = number_is h.0 n (sym h.3 ∙ e) in
+            let there : slice_get m.types n ≡ Some h.1 = ap (slice_get m.types) (sym same) ∙ h.4 in
+            cc,
+      ))
 
       by_name : (o : Option ℕ) → host_place i.name ≡ o → (number : ℕ) × (host_place i.name ≡ Some number)
       by_name (Some number) q = (number, q)

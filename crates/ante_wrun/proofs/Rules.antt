@@ -1,9 +1,8 @@
 -- What stands where the whole isn't stuck: the operands, the frames and the functions that the next rule wants.
-use Rattle.std.proofs.Common.{◌≡◌, ℕ, zero, suc, ◌+◌, ◌<◌, ◌≤◌, Bool, true, false, List, [], ◌∷◌, length, take, Option, None, Some, Result, Ok, Err, refl, sym, ap, subst, ◌∙◌, arith}
+use Rattle.std.proofs.Common.{◌≡◌, ℕ, zero, suc, ◌+◌, ◌<◌, ◌≤◌, Bool, true, false, List, [], ◌∷◌, length, take, Option, None, Some, Result, Ok, Err, refl, ap, subst, arith}
 use Rattle.std.specs.Prelude.{◌&&◌, ◌==◌, nat_le, slice_get, slice_index_or, if◌then◌else◌}
 use Rattle.std.proofs.lemmas.Bool.{leb-true}
 use denote.Bor.{Bor}
-use Rattle.ante_wmem.specs.Linear.{LinearMemory}
 use Rattle.ante_wmem.specs.HostCalls.{HostMeaning}
 use Rattle.ante_wmem.specs.HostCalls as calls
 use Rattle.ante_wtree.specs.declared.instructions.Instr.{Instr}
@@ -15,10 +14,10 @@ use Rattle.ante_wrun.specs.declared.ends.TrapKind.{TrapKind}
 use Rattle.ante_wrun.specs.declared.thread.Frame.{Frame}
 use Rattle.ante_wrun.specs.declared.thread.Frame.TheVariants as frame
 use Rattle.ante_wrun.specs.declared.thread.Thread.{Thread}
-use Rattle.ante_wrun.specs.Effects.{Values, Effect, Next, Traps, NoRule, effect, operands, finds, done, low, top, popped}
-use Rattle.ante_wrun.specs.Meaning.{Program, FunctionInstance, Own, Given, Missing, State, Outcome, Normal, Branch, Returned, Ended, Lacks, InHost, Stuck, arity, only_if, and_then, of_effect, of_block, chosen, jump_unless, grow, element, acts, does, taking, on_stack, stack_of, target, of_function, of_reply, gives_none, call}
+use Rattle.ante_wrun.specs.Effects.{Values, Effect, NoRule, effect, operands, finds, done, low, top, popped}
+use Rattle.ante_wrun.specs.Meaning.{Program, FunctionInstance, Own, Given, Missing, State, Outcome, Normal, Branch, Returned, Ended, Lacks, InHost, Stuck, arity, only_if, and_then, of_effect, of_block, chosen, jump_unless, grow, element, acts, does, taking, on_stack, stack_of, target, of_function, of_reply, call}
 use Rattle.ante_wrun.specs.Machine.{under, whole, Reaches, Returns, Gives}
-use Rattle.ante_wrun.specs.Control.{own_at, Takes, Leaves}
+use Rattle.ante_wrun.specs.Control.{Takes, Leaves}
 use Rattle.ante_wrun.specs.Runs.{NotStuck}
 use Rattle.ante_wrun.specs.Turns.{Replies}
 

@@ -1,5 +1,5 @@
 -- A run of a valid module never gets stuck.
-use Rattle.std.proofs.Common.{◌≡◌, ℕ, ◌+◌, ◌<◌, ◌≤◌, List, [], ◌∷◌, length, reverse, Option, None, Some, refl, sym, ap, subst, ◌∙◌, arith, ⊎_elim}
+use Rattle.std.proofs.Common.{◌≡◌, ℕ, ◌+◌, List, [], length, Option, None, Some, refl, sym, ap, subst, ◌∙◌, arith, ⊎_elim}
 use Rattle.std.proofs.lemmas.Bool.{cases_lt}
 use Rattle.std.proofs.lemmas.List.{length-reverse}
 use Rattle.ante_wmem.specs.Linear.{LinearMemory}
@@ -9,11 +9,10 @@ use Rattle.ante_wtree.specs.Trees.{Tree}
 use Rattle.ante_wvalid.specs.declared.kinds.ModuleRule.TheVariants as rule
 use Rattle.ante_wvalid.specs.declared.kinds.InvalidKind.TheVariants as invalid
 use Rattle.ante_wvalid.specs.Modules.{function_types, HasType, IsValid}
-use Rattle.ante_wrun.specs.Meaning.{State, Outcome, Normal, Branch, Returned, Ended, Lacks, InHost, Stuck, stack_of}
+use Rattle.ante_wrun.specs.Meaning.{State, Outcome, Normal, Branch, Returned, Ended, Lacks, InHost, Stuck}
 use Rattle.ante_wrun.specs.Runs.{MayCall, MayBelow, IsHosts, NotStuck}
 use Rattle.ante_wrun.specs.Instances.{program_in, apply_in}
 use Rattle.ante_wrun.specs.Running.{most_frames, with_arguments, called_with, start_runs, apply_runs, AnswersTyped}
-use Rattle.ante_wrun.specs.Soundness.{IsTyped}
 use Rattle.ante_wrun.proofs.Programs.{typed_unless}
 use Rattle.ante_wrun.proofs.Reached.{three, apply_is_own, apply_typed, apply_there}
 use Rattle.ante_wrun.proofs.Soundness.{Fine, fine_runs, invoked_is_fine}

@@ -1,9 +1,9 @@
 -- A run of a typed module never gets stuck: each part leaves as many operands as its type says.
-use Rattle.std.proofs.Common.{◌≡◌, ℕ, zero, suc, ◌+◌, ◌-◌, ◌<◌, ◌≤◌, Bool, true, false, List, [], ◌∷◌, ◌++◌, length, take, drop, reverse, replicate, Option, None, Some, Result, Ok, Err, refl, sym, ap, subst, ◌∙◌, arith, ⊎_elim, length-append, length-drop}
-use Rattle.std.specs.Prelude.{◌&&◌, ◌==◌, ◌%◌, ◌^◌, not, nat_lt, nat_le, slice_get, slice_index_or}
+use Rattle.std.proofs.Common.{◌≡◌, ℕ, zero, suc, ◌+◌, ◌-◌, ◌≤◌, Bool, true, false, List, [], ◌∷◌, length, take, drop, replicate, Option, None, Some, refl, sym, ap, subst, ◌∙◌, arith, ⊎_elim, length-append, length-drop}
+use Rattle.std.specs.Prelude.{◌&&◌, ◌==◌, not, nat_le, slice_get, slice_index_or}
 use Rattle.std.specs.List.{All}
-use Rattle.std.proofs.lemmas.Bool.{le-leb, lt-ltb, cases_lt}
-use Rattle.std.proofs.lemmas.List.{length-take-le, length-reverse, length-replicate}
+use Rattle.std.proofs.lemmas.Bool.{le-leb, cases_lt}
+use Rattle.std.proofs.lemmas.List.{length-take-le, length-replicate}
 use Rattle.ante_wmem.specs.Linear.{LinearMemory, may_grow}
 use Rattle.ante_wmem.specs.HostCalls.{Reply, value, nothing, exit, refused, step_limit, HostMeaning, Keeps}
 use Rattle.ante_wmem.specs.HostCalls as answered
@@ -11,11 +11,10 @@ use Rattle.ante_wtree.specs.declared.instructions.ValueKind.{ValueKind}
 use Rattle.ante_wtree.specs.declared.modules.FuncType.{FuncType}
 use Rattle.ante_wtree.specs.Expressions.{Expression, Over, Plain, Block, Loop, If, Br, BrIf, BrTable, Return, Call, CallIndirect, MemoryGrow}
 use Rattle.ante_wtree.specs.Trees.{Tree}
-use Rattle.ante_wvalid.specs.Typing.{Context, Operands, Typed, inside, kinds_of, function_type, type_numbered}
+use Rattle.ante_wvalid.specs.Typing.{Context, Operands, Typed, inside, kinds_of, type_numbered}
 use Rattle.ante_wvalid.specs.Modules.{function_types, first_of, context_of}
 use Rattle.ante_wrun.specs.Effects.{Effect, Next, Traps, NoRule, effect, low}
-use Rattle.ante_wrun.specs.Meaning.{FunctionInstance, Own, Given, Missing, Program, State, Outcome, Normal, Branch, Returned, Ended, Lacks, InHost, Stuck, stack_of, on_stack, with_values, keep, unwound, arity, result_of, returned, grown_by, entered, arguments, mask, masked, all_fit, gives_none, after_look, after_item, after_call, due, supplied, pay, seen, step, starts, only_if, and_then, of_block, of_loop, back, of_call, settled, of_effect, taking, turns, chosen, jump_unless, target, pay_pages, grow_if, grow, is_of, same_kind, same_kinds, checked, of_place, of_type, element, acts, does, of_reply, host_supplied, call_host, of_function, no_frame, call_own, call, invoked}
-use Rattle.ante_wrun.specs.Control.{IsGiven}
+use Rattle.ante_wrun.specs.Meaning.{FunctionInstance, Own, Given, Missing, Program, State, Outcome, Normal, Branch, Returned, Ended, Lacks, InHost, Stuck, stack_of, on_stack, with_values, keep, unwound, arity, result_of, returned, grown_by, entered, arguments, masked, all_fit, gives_none, after_look, after_item, due, supplied, pay, seen, step, starts, only_if, and_then, of_block, of_loop, back, of_call, settled, of_effect, taking, turns, chosen, jump_unless, target, pay_pages, grow_if, grow, is_of, same_kind, same_kinds, checked, of_place, of_type, element, acts, does, of_reply, host_supplied, call_host, of_function, no_frame, call_own, call, invoked}
 use Rattle.ante_wrun.specs.Runs.{MayCall, MayBelow, IsHosts, NotStuck}
 use Rattle.ante_wrun.specs.Turns.{Replies}
 use Rattle.ante_wrun.specs.Soundness.{IsOf, HasKind, IsTyped}
@@ -362,9 +361,10 @@ module _ {W R : Type 0} (allowed : W → ℕ → List ℕ → ℕ → Type 0) (m
         (chosen_fine allowed program (length c.locals) (length m.globals) (kind ∷ c.labels) (length below ∷ hs) (λ count. arity c.result ≤ count) (length below + length (kinds_of kind)) (low test == 0) (does program calls one) (does program calls two) (on_stack s below) first second))
         (λ u fit k. does_fine rest (acts_fine rest) c hs base t.0 after known laid t.2 u fit (omega (arith, k, n, ap length t.1.1.2, onto_length (kinds_of kind) mid))))
     acts_fine (Br n rest) c hs base before after known laid t s f e =
-        let w = t.1 in
-        ((f.0, f.1, below_less allowed program s.world (suc s.left) s.left (omega arith) f.2),
-        jumps_to c.labels hs base n (length (stack_of s)) w.0 laid w.1 (omega (arith, e, ap length w.2.1, onto_length (kinds_of w.0) w.2.0, kinds_length w.0)))
+        let w = t.1 in (
+          (f.0, f.1, below_less allowed program s.world (suc s.left) s.left (omega arith) f.2),
+          jumps_to c.labels hs base n (length (stack_of s)) w.0 laid w.1 (omega (arith, e, ap length w.2.1, onto_length (kinds_of w.0) w.2.0, kinds_length w.0)),
+        )
     acts_fine (BrIf n rest) c hs base before after known laid t s f e =
         let w = t.1 in
         let below' = w.2.0 in
@@ -380,14 +380,16 @@ module _ {W R : Type 0} (allowed : W → ℕ → List ℕ → ℕ → Type 0) (m
         let w = t.1 in
         let below' = w.2.1.0 in
         taking_fine allowed program (length c.locals) (length m.globals) (Jumps c.labels hs) (λ count. arity c.result ≤ count) (base + length after) (stack_of s) s _ (base + length below') (omega (arith, e, ap length w.2.1.1))
-        (λ at below k.
-        ((f.0, f.1, below_less allowed program s.world (suc s.left) s.left (omega arith) f.2),
-        jumps_to c.labels hs base (slice_index_or ns (low at) n) (length below) w.0 laid (all_or (λ k. slice_get c.labels k ≡ Some w.0) ns n (low at) w.2.0 w.1)
-        (omega (arith, k, ap length w.2.1.2.1, onto_length (kinds_of w.0) w.2.1.2.0, kinds_length w.0))))
+        (λ at below k. (
+          (f.0, f.1, below_less allowed program s.world (suc s.left) s.left (omega arith) f.2),
+          jumps_to c.labels hs base (slice_index_or ns (low at) n) (length below) w.0 laid (all_or (λ k. slice_get c.labels k ≡ Some w.0) ns n (low at) w.2.0 w.1)
+              (omega (arith, k, ap length w.2.1.2.1, onto_length (kinds_of w.0) w.2.1.2.0, kinds_length w.0)),
+        ))
     acts_fine (Return rest) c hs base before after known laid t s f e =
-        let w = t.1 in
-        ((f.0, f.1, below_less allowed program s.world (suc s.left) s.left (omega arith) f.2),
-        omega (arith, e, ap length w.1, onto_length (kinds_of c.result) w.0, kinds_length c.result))
+        let w = t.1 in (
+          (f.0, f.1, below_less allowed program s.world (suc s.left) s.left (omega arith) f.2),
+          omega (arith, e, ap length w.1, onto_length (kinds_of c.result) w.0, kinds_length c.result),
+        )
     acts_fine (Call fn rest) c hs base before after known laid t s f e =
         let w = t.1 in
         let u = w.0 in

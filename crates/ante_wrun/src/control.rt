@@ -167,9 +167,7 @@ pub(crate) fn call_function<'a, H: Host>(
         next thread.new w left last outside) }
 {
     match functions.all[at as usize] {
-        Function::Own { kind, locals, body } => {
-            enter::<H>(thread, alloc, kind, locals, body)
-        }
+        Function::Own { kind, locals, body } => { enter::<H>(thread, alloc, kind, locals, body) }
         Function::Host { kind, number } => {
             thread.state.values.push(alloc, 0)?;
             Ok(Next::HostCall(kind, number))

@@ -1,13 +1,12 @@
-use Rattle.std.proofs.Common.{◌≡◌, ◌≤◌, Some, length, refl, sym, ap, subst, ◌∙◌, arith}
-use Rattle.std.specs.Prelude.{slice_get, nat_le, map}
+use Rattle.std.proofs.Common.{◌≤◌, Some, length, refl, sym, ap, subst, ◌∙◌, arith}
 use Rattle.std.proofs.lemmas.Bool.{le-leb}
 use Rattle.std.proofs.lemmas.Option.{slice_get_read}
 use Rattle.ante_wtree.specs.Expressions.{expression_of}
 use Rattle.ante_wrun.specs.Effects.{popped}
-use Rattle.ante_wrun.specs.Meaning.{Own, Given, and_then, only_if, call_host, on_stack, call}
+use Rattle.ante_wrun.specs.Meaning.{Own, Given, and_then, only_if, call_host, on_stack}
 use Rattle.ante_wrun.specs.Machine.{state_of, rest_of, under, after}
 use Rattle.ante_wrun.specs.Control.{instance_of, program_of, own_at, Leads, Takes}
-use Rattle.ante_wrun.proofs.Calls.{found, within, not_host, if_ok, calls}
+use Rattle.ante_wrun.proofs.Calls.{found, within, if_ok, calls}
 use Rattle.ante_wrun.proofs.control.call_function.Goals as goal
 
 pub returns-in-Own-clause-leads : goal.returns-in-Own-clause-leads

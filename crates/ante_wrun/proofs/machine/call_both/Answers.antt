@@ -1,4 +1,4 @@
-use Rattle.std.proofs.Common.{◌≡◌, ℕ, ◌<◌, ◌≤◌, List, Ok, refl, sym, ap, subst, arith}
+use Rattle.std.proofs.Common.{◌≡◌, ℕ, ◌≤◌, List, Ok, refl, sym, ap, subst, arith}
 use Rattle.ante_wtree.specs.Trees.{tree_of}
 use Rattle.ante_wrun.specs.Meaning.{Program, Normal, and_then}
 use Rattle.ante_wrun.specs.Machine.{state_of}
@@ -36,11 +36,14 @@ pub call_start-requires-clause-sound : goal.call_start-requires-clause-sound
 call_start-requires-clause-sound g c =
     let P = program_of c.args.functions.now in
     let m = tree_of c.args.module.now in
-    let s = state_of c.args.state c.args.host.now c.args.left.now c.args.left.now undisturbed in
-    (undisturbed, (λ n. refl, λ n. refl, λ n. refl), subst (λ p. NotStuck (start_runs g.H.Host.meaning p m.start s)) (sym c.requires.program)
-    (start_safe g.H.Host.meaning g.H.Host.allowed m c.requires.valid c.requires.answers g.met.H.Host.keeps s c.requires.globals
-    (subst (λ p. MayBelow g.H.Host.allowed p c.args.host.now c.args.left.now) c.requires.program (below_from g.H.Host.allowed P g.met.H.Host.lower c.args.host.now c.args.left.now c.requires.allowed))
-    (subst (λ p. MayCall g.H.Host.allowed p c.args.host.now c.args.left.now) c.requires.program c.requires.allowed)).0)
+    let s = state_of c.args.state c.args.host.now c.args.left.now c.args.left.now undisturbed in (
+      undisturbed,
+      (λ n. refl, λ n. refl, λ n. refl),
+      subst (λ p. NotStuck (start_runs g.H.Host.meaning p m.start s)) (sym c.requires.program)
+          (start_safe g.H.Host.meaning g.H.Host.allowed m c.requires.valid c.requires.answers g.met.H.Host.keeps s c.requires.globals
+          (subst (λ p. MayBelow g.H.Host.allowed p c.args.host.now c.args.left.now) c.requires.program (below_from g.H.Host.allowed P g.met.H.Host.lower c.args.host.now c.args.left.now c.requires.allowed))
+          (subst (λ p. MayCall g.H.Host.allowed p c.args.host.now c.args.left.now) c.requires.program c.requires.allowed)).0,
+    )
 
 pub call_apply-requires-clause-sound : goal.call_apply-requires-clause-sound
 call_apply-requires-clause-sound g c =
@@ -57,6 +60,9 @@ call_apply-requires-clause-sound g c =
     let came = subst (λ x. CallLeads g.H.Host.stands (start_runs g.H.Host.meaning P m.start s) (Ok x) c.call_start.new.host c.call_start.new.left c.call_start.new.last (past v.0 h.0)) c.in-Returned.is (h.2 v.0 v.1) in
     let globals = safe.1 t (subst (λ p. start_runs g.H.Host.meaning p m.start s ≡ Normal t) c.requires.program came) in
     let later = subst (λ p. MayBelow g.H.Host.allowed p c.call_start.new.host c.call_start.new.left) c.requires.program
-    (subst (λ x. OnReturn x (MayBelow g.H.Host.allowed P c.call_start.new.host c.call_start.new.left)) c.in-Returned.is c.in_ok-state.ensures.allowed) in
-    (undisturbed, (λ n. refl, λ n. refl, λ n. refl), subst (λ p. NotStuck (apply_runs g.H.Host.meaning p (apply_in m) c.args.args.now u)) (sym c.requires.program)
-    (apply_safe g.H.Host.meaning g.H.Host.allowed m c.requires.valid c.requires.answers g.met.H.Host.keeps c.args.args.now c.requires.arguments u globals later))
+    (subst (λ x. OnReturn x (MayBelow g.H.Host.allowed P c.call_start.new.host c.call_start.new.left)) c.in-Returned.is c.in_ok-state.ensures.allowed) in (
+      undisturbed,
+      (λ n. refl, λ n. refl, λ n. refl),
+      subst (λ p. NotStuck (apply_runs g.H.Host.meaning p (apply_in m) c.args.args.now u)) (sym c.requires.program)
+          (apply_safe g.H.Host.meaning g.H.Host.allowed m c.requires.valid c.requires.answers g.met.H.Host.keeps c.args.args.now c.requires.arguments u globals later),
+    )

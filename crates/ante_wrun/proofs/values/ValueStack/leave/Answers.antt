@@ -1,4 +1,4 @@
-use Rattle.std.proofs.Common.{◌+◌, [], take, inl, sym, ap, ◌∙◌, arith, append-nil}
+use Rattle.std.proofs.Common.{◌+◌, [], take, inl, sym, ap, ◌∙◌, append-nil}
 use Rattle.ante_wrun.proofs.Regions.{left_view, no_results}
 use Rattle.ante_wrun.proofs.values.ValueStack.leave.Goals as goal
 
