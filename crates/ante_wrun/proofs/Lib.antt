@@ -4,3 +4,6 @@ pub mod Signs
 pub mod Bodies
 pub mod Calls
 pub mod Turning
+pub mod Making
+pub mod Reached
+pub mod Whole

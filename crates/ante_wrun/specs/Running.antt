@@ -1,6 +1,7 @@
 -- A whole run of a module: its start function, and then `apply`.
-use Rattle.std.specs.Prelude.{◌≡◌, ℕ, Bool, true, false, List, [], reverse, Option, None, Some, Result, Ok, Err}
+use Rattle.std.specs.Prelude.{◌≡◌, ℕ, ◌-◌, Bool, true, false, List, [], reverse, Option, None, Some, Result, Ok, Err}
 use Rattle.std.specs.declared.alloc.AllocError.{AllocError}
+use Rattle.ante_base.specs.Stops.{Rises}
 use Rattle.ante_wmem.specs.Linear.{LinearMemory}
 use Rattle.ante_wmem.specs.HostCalls.{Reply, value, nothing, exit, refused, step_limit, HostMeaning}
 use Rattle.ante_wmem.specs.declared.host.HostAnswer.{HostAnswer}
@@ -60,6 +61,10 @@ abbrev pub RunAnswers : {W R : Type 0} → (stands : W → ℕ → List ℕ → 
     Outcome W R → Result (RunEnd R) AllocError → W → (left : ℕ) → Outside → Type 0
 RunAnswers stands o (Ok e) w left outside = Ends stands e w left outside o
 RunAnswers stands o (Err e) w left outside = Wanting outside → Lacking stands w left outside o
+
+-- the count of looks, where the stop tells it, rose by those that were made between these
+abbrev pub CountsLooks : (old new : Option ℕ) → (before after : Outside) → Type 0
+CountsLooks old new before after = Rises (after.looks - before.looks) old new
 
 -- ---- what a run needs of its host's answers
 

@@ -161,13 +161,7 @@ fn most_pages(most: Option<u32>) -> u32
     ensures { result ≡ most_pages most }
 {
     match most {
-        Some(most) => {
-            if most < PAGES {
-                most
-            } else {
-                PAGES
-            }
-        }
+        Some(most) => { if most < PAGES { most } else { PAGES } }
         None => PAGES,
     }
 }
@@ -182,22 +176,22 @@ fn empty_memory(alloc: Heap, limits: &[Limits]) -> Result<Memory, AllocError>
     }
 }
 
+fn fits(at: u32, count: usize, bound: usize) -> bool
+    ensures { result ≡ nat_le (at + count) bound }
+{
+    at as usize <= bound && count <= bound - at as usize
+}
+
 fn elements_fit(places: usize, elements: &[Element]) -> bool
     ensures { result ≡ elements_fit places elements.now }
 {
-    elements.iter().all(|element| {
-        let at = offset_of(element.offset) as usize;
-        at <= places && element.functions.len() <= places - at
-    })
+    elements.iter().all(|element| fits(offset_of(element.offset), element.functions.len(), places))
 }
 
 fn data_fits(count: usize, segments: &[Segment]) -> bool
     ensures { result ≡ data_fits count segments.now }
 {
-    segments.iter().all(|segment| {
-        let at = offset_of(segment.offset) as usize;
-        at <= count && segment.bytes.len() <= count - at
-    })
+    segments.iter().all(|segment| fits(offset_of(segment.offset), segment.bytes.len(), count))
 }
 
 /// Writes the numbers of a segment's functions.
@@ -280,15 +274,11 @@ fn data_of(alloc: Heap, module: &Module) -> Result<Data, AllocError>
 fn segments_fit(module: &Module, places: usize, count: usize) -> bool
     ensures { result ≡ (elements_fit places module.now.elements && data_fits count module.now.segments) }
 {
-    elements_fit(places, module.elements.as_slice())
-        && data_fits(count, module.segments.as_slice())
+    elements_fit(places, module.elements.as_slice()) && data_fits(count, module.segments.as_slice())
 }
 
 /// Makes the instance, or none where a segment doesn't fit.
-pub(crate) fn instantiate(
-    alloc: Heap,
-    module: &Module,
-) -> Result<Option<Instance<'_>>, AllocError>
+pub(crate) fn instantiate(alloc: Heap, module: &Module) -> Result<Option<Instance<'_>>, AllocError>
     requires { IsValid (tree_of module.now) }
     ensures { IfOk result (IsInstance (tree_of module.now)) }
 {
@@ -320,6 +310,10 @@ fn is_apply(export: &Export) -> bool
 pub(crate) fn apply_index(module: &Module) -> Option<u32>
     ensures { result ≡ apply_in (tree_of module.now) }
 {
-    let found = module.exports.as_slice().iter().find(|export| is_apply(export));
+    let found = module
+        .exports
+        .as_slice()
+        .iter()
+        .find(|export| is_apply(export));
     found.map(|export| export.index)
 }

@@ -1,5 +1,5 @@
 //! The public call.
-ghost use Rattle.std.specs.Prelude.{◌≡◌, ℕ, [], reverse, Ok, None, IfOk};
+ghost use Rattle.std.specs.Prelude.{◌≡◌, ℕ, [], reverse, Ok, None, Some, IfOk};
 ghost use Rattle.ante_wtree.specs.Trees.{tree_of};
 ghost use Rattle.ante_wvalid.specs.Modules.{IsValid};
 ghost use Rattle.ante_wrun.specs.Meaning.{Outside};
@@ -7,8 +7,8 @@ ghost use Rattle.ante_wrun.specs.Machine.{state_of};
 ghost use Rattle.ante_wrun.specs.Control.{program_of};
 ghost use Rattle.ante_wrun.specs.Runs.{Begins, past, ByEvents, MayCall, MayBelow, IsHosts};
 ghost use Rattle.ante_wrun.specs.Turns.{RunLeads};
-ghost use Rattle.ante_wrun.specs.Instances.{program_in};
-ghost use Rattle.ante_wrun.specs.Running.{most_frames, called_with, start_runs, both_run, run_of, RunAnswers, AnswersTyped};
+ghost use Rattle.ante_wrun.specs.Instances.{program_in, apply_in};
+ghost use Rattle.ante_wrun.specs.Running.{most_frames, called_with, start_runs, apply_runs, both_run, run_of, RunAnswers, CountsLooks, AnswersTyped};
 
 use crate::control::Functions;
 use crate::ends::{RunEnd, TrapKind};
@@ -62,6 +62,7 @@ fn call_with<'a, H: Host, P: Stop>(
         RunLeads H.stands (called_with H.meaning program args.now function (state_of thread.old.state host.old left.old last.old outside))
         result thread.new host.new left.new last.new (past outside events)) }
     ensures allowed { result ≡ Ok None → MayBelow H.allowed (program_of functions.now) host.new left.new }
+    ensures early { result ≡ Ok (Some RunEnd.Done) → ⊥ }
 {
     thread.state.values = operands(alloc, args)?;
     thread.code = &[];
@@ -88,12 +89,51 @@ fn call_start<'a, H: Host, P: Stop>(
         RunLeads H.stands (start_runs H.meaning program start (state_of thread.old.state host.old left.old last.old outside))
         result thread.new host.new left.new last.new (past outside events)) }
     ensures allowed { result ≡ Ok None → MayBelow H.allowed (program_of functions.now) host.new left.new }
+    ensures early { result ≡ Ok (Some RunEnd.Done) → ⊥ }
 {
     match start {
         Some(function) => call_with(
-            thread, functions, alloc, host, stop, left, last, function, &[],
+            thread,
+            functions,
+            alloc,
+            host,
+            stop,
+            left,
+            last,
+            function,
+            &[],
         ),
         None => Ok(None),
+    }
+}
+
+/// Calls `apply`.
+fn call_apply<'a, H: Host, P: Stop>(
+    thread: &mut Thread<'a>,
+    functions: &Functions<'a>,
+    alloc: Global,
+    host: &mut H,
+    stop: &mut P,
+    left: &mut u64,
+    last: &mut u64,
+    module: &Module,
+    args: &[u64],
+) -> Result<RunEnd<H::Refusal>, AllocError>
+    requires valid { IsValid (tree_of module.now) }
+    requires program { program_of functions.now ≡ program_in (tree_of module.now) }
+    requires below { MayBelow H.allowed (program_of functions.now) host.old left.old }
+    ensures { ByEvents P.may stop.old stop.new (λ events. (outside : Outside) → Begins outside events →
+        RunAnswers H.stands (apply_runs H.meaning (program_of functions.now) (apply_in (tree_of module.now)) args.now (state_of thread.old.state host.old left.old last.old outside))
+        result host.new left.new (past outside events)) }
+{
+    let Some(apply) = apply_index(module) else {
+        return Ok(RunEnd::Trap(TrapKind::Unreachable));
+    };
+    match call_with(
+        thread, functions, alloc, host, stop, left, last, apply, args,
+    )? {
+        Some(end) => Ok(end),
+        None => Ok(RunEnd::Done),
     }
 }
 
@@ -110,33 +150,18 @@ fn call_both<'a, H: Host, P: Stop>(
 ) -> Result<RunEnd<H::Refusal>, AllocError>
     requires valid { IsValid (tree_of module.now) }
     requires program { program_of functions.now ≡ program_in (tree_of module.now) }
-    requires allowed { MayCall H.allowed (program_in (tree_of module.now)) host.old left.old }
+    requires allowed { MayCall H.allowed (program_of functions.now) host.old left.old }
     ensures { ByEvents P.may stop.old stop.new (λ events. (outside : Outside) → Begins outside events →
-        RunAnswers H.stands (both_run H.meaning (program_in (tree_of module.now)) (tree_of module.now) args.now (state_of thread.old.state host.old left.old left.old outside))
+        RunAnswers H.stands (both_run H.meaning (program_of functions.now) (tree_of module.now) args.now (state_of thread.old.state host.old left.old left.old outside))
         result host.new left.new (past outside events)) }
 {
     let mut last = *left;
-    let started = call_start(
-        thread,
-        functions,
-        alloc,
-        host,
-        stop,
-        left,
-        &mut last,
-        module.start,
-    )?;
-    if let Some(end) = started {
-        return Ok(end);
-    }
-    let Some(apply) = apply_index(module) else {
-        return Ok(RunEnd::Trap(TrapKind::Unreachable));
-    };
-    match call_with(
-        thread, functions, alloc, host, stop, left, &mut last, apply, args,
-    )? {
+    let start = module.start;
+    match call_start(thread, functions, alloc, host, stop, left, &mut last, start)? {
         Some(end) => Ok(end),
-        None => Ok(RunEnd::Done),
+        None => call_apply(
+            thread, functions, alloc, host, stop, left, &mut last, module, args,
+        ),
     }
 }
 
@@ -167,7 +192,8 @@ impl Machine {
         requires allowed { MayCall H.allowed (program_in (tree_of module.now)) host.old left.old }
         requires answers { AnswersTyped H.allowed H.meaning (program_in (tree_of module.now)) }
         ensures ends { ByEvents P.may stop.old stop.new (λ events. (outside : Outside) → Begins outside events →
-            RunAnswers H.stands (run_of H.meaning (tree_of module.now) args host.old left.old outside) result host.new left.new (past outside events)) }
+            RunAnswers H.stands (run_of H.meaning (tree_of module.now) args host.old left.old outside) result host.new left.new (past outside events)
+            × CountsLooks (P.looks stop.old) (P.looks stop.new) outside (past outside events)) }
     {
         let module = module.module();
         let Some(instance) = instantiate(alloc, module)? else {

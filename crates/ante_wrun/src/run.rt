@@ -1,5 +1,5 @@
 //! The loop of a run: looks, steps, instructions and host calls.
-ghost use Rattle.std.specs.Prelude.{◌≡◌, ℕ, suc, ◌<◌, ◌≤◌, List, [], length, Ok, None};
+ghost use Rattle.std.specs.Prelude.{◌≡◌, ℕ, suc, ◌<◌, ◌≤◌, List, [], length, Ok, None, Some};
 ghost use Rattle.ante_base.specs.Stops.{Looks};
 ghost use Rattle.ante_wmem.specs.HostCalls.{StaysAllowed};
 ghost use Rattle.ante_wrun.specs.Effects.{popped};
@@ -94,6 +94,7 @@ fn host_call<'a, H: Host>(
         HostLeads H.meaning H.stands program (after H.meaning program thread.old (call_host H.meaning kind.now number s)) result thread.new host.new left.new last outside }
     ensures after { StaysAllowed H.allowed host.old left.old host.new left.new }
     ensures falls { left.new ≤ left.old }
+    ensures early { result ≡ HostNext.Ended RunEnd.Done → ⊥ }
 {
     let count = kind.params.len();
     let args = thread.state.values.arguments(count);
@@ -134,6 +135,7 @@ fn turn<'a, H: Host, P: Stop>(
     ensures falls { result ≡ Ok Progress.Go → left.new < left.old }
     ensures allowed { result ≡ Ok Progress.Go → MayBelow H.allowed (program_of functions.now) host.new left.new }
     ensures over { result ≡ Ok Progress.Over → MayBelow H.allowed (program_of functions.now) host.new left.new }
+    ensures early { result ≡ Ok (Progress.Ended RunEnd.Done) → ⊥ }
 {
     let instr = match next_instr::<H>(thread) {
         Some(instr) => instr,
@@ -177,6 +179,7 @@ fn run_thread<'a, H: Host, P: Stop>(
         RunLeads H.stands (going H.meaning program thread.old (state_of thread.old.state host.old left.old last.old outside))
         result thread.new host.new left.new last.new (past outside events)) }
     ensures allowed { result ≡ Ok None → MayBelow H.allowed (program_of functions.now) host.new left.new }
+    ensures early { result ≡ Ok (Some RunEnd.Done) → ⊥ }
 {
     'turns: loop {
         match turn(thread, functions, alloc, host, stop, left, last) {
@@ -207,6 +210,7 @@ pub(crate) fn invoke<'a, H: Host, P: Stop>(
         RunLeads H.stands (invoked H.meaning program thread.old.free function (state_of thread.old.state host.old left.old last.old outside))
         result thread.new host.new left.new last.new (past outside events)) }
     ensures allowed { result ≡ Ok None → MayBelow H.allowed (program_of functions.now) host.new left.new }
+    ensures early { result ≡ Ok (Some RunEnd.Done) → ⊥ }
 {
     match call_function::<H>(thread, functions, alloc, function) {
         Ok(Next::Go) => run_thread(thread, functions, alloc, host, stop, left, last),

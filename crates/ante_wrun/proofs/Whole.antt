@@ -1,0 +1,98 @@
+-- Whole runs, from what their calls answer.
+use Rattle.std.proofs.Common.{◌≡◌, ℕ, suc, ◌+◌, ◌-◌, true, false, List, [], ◌∷◌, length, Option, refl, ap, sym, subst, ◌∙◌, arith}
+use Rattle.ante_base.specs.Stops.{Looks, Rises}
+use Rattle.ante_base.specs.LookCounts.{Looks-rise}
+use Rattle.std.specs.Prelude.{reverse}
+use Rattle.ante_wmem.specs.Linear.{LinearMemory}
+use Rattle.ante_wmem.specs.HostCalls.{HostMeaning}
+use Rattle.ante_wmem.specs.declared.host.HostAnswer.{HostAnswer}
+use Rattle.ante_wtree.specs.Trees.{Tree}
+use Rattle.ante_wrun.specs.declared.data.Data.{Data}
+use Rattle.ante_wrun.specs.declared.ends.TrapKind.TheVariants as trap
+use Rattle.ante_wrun.specs.declared.ends.RunEnd.{RunEnd}
+use Rattle.ante_wrun.specs.declared.ends.RunEnd.TheVariants as end
+use Rattle.ante_wrun.specs.Effects.{Values}
+use Rattle.ante_wrun.specs.Frames.{FrameValues}
+use Rattle.ante_wrun.specs.Meaning.{Outside, after_look, after_item, after_call, Program, State, Outcome, Normal, Branch, Returned, Ended, Lacks, InHost, supplied, settled, and_then, call, invoked}
+use Rattle.ante_wrun.specs.Machine.{state_of}
+use Rattle.ante_wrun.specs.Runs.{Event, Looked, Supplied, CallSupplied, looks_of, Begins, past, ByEvents, Wanting, Ends, Lacking}
+use Rattle.ante_wrun.specs.Running.{most_frames, called_with, outset_of, where_fit, both_run, run_of, CountsLooks}
+use Rattle.ante_wrun.specs.Instances.{segments_fit, program_in, first_values}
+
+-- what holds of an outside and the outside after the events, may be said in other words
+pub by_events : {S : Type 0} (may : S → Option ℕ → S → Type 0) (old new : S) (A B : Outside → Outside → Type 0) → ((v u : Outside) → A v u → B v u) →
+    ByEvents may old new (λ events. (v : Outside) → Begins v events → A v (past v events)) → ByEvents may old new (λ events. (v : Outside) → Begins v events → B v (past v events))
+by_events may old new A B f h = (h.0, h.1, λ v b. f v (past v h.0) (h.2 v b))
+
+module _ {W R : Type 0} (stands : W → ℕ → List ℕ → LinearMemory → ℕ → HostAnswer R → W → Type 0) where
+  pub lacking_then : (w : W) (left : ℕ) (u : Outside) (o : Outcome W R) (go : State W → Outcome W R) → Lacking stands w left u o → Lacking stands w left u (and_then o go)
+  lacking_then w left u (Normal s) go h = absurd h
+  lacking_then w left u (Branch n s) go h = h
+  lacking_then w left u (Returned s) go h = h
+  lacking_then w left u (Ended e s) go h = h
+  lacking_then w left u (Lacks s) go h = h
+  lacking_then w left u (InHost f args a n s) go h = h
+
+  pub ends_then : (e : RunEnd R) (w : W) (left : ℕ) (u : Outside) (o : Outcome W R) (go : State W → Outcome W R) → (e ≡ end.Done → ⊥) → Ends stands e w left u o → Ends stands e w left u (and_then o go)
+  ends_then e w left u (Normal s) go no h = absurd (no h.0)
+  ends_then e w left u (Branch n s) go no h = h
+  ends_then e w left u (Returned s) go no h = h
+  ends_then e w left u (Ended f s) go no h = h
+  ends_then e w left u (Lacks s) go no h = h
+  ends_then e w left u (InHost f args a n s) go no h = h
+
+  pub done : (d : Data) (w : W) (left last : ℕ) (u : Outside) (o : Outcome W R) → o ≡ Normal (state_of d w left last u) → Ends stands end.Done w left u o
+  done d w left last u o h = subst (Ends stands end.Done w left u) (sym h) (refl, refl, refl, refl)
+
+  pub wanted_first : (s : State W) (go : State W → Outcome W R) → Wanting s.outside → Lacking stands s.world s.left s.outside (supplied (s.outside.item_lacks s.outside.items) s go)
+  wanted_first s go want = subst (λ b. Lacking stands s.world s.left s.outside (supplied b s go)) (sym want.0) (refl, refl, refl)
+
+module _ {W R : Type 0} (host : HostMeaning W R) (program : Program) where
+  -- a call with other operands and free frames
+  pub called_as : (d : Data) (values : FrameValues) (free : ℕ) (args : List ℕ) (f : ℕ) (w : W) (left last : ℕ) (u : Outside) →
+      values ≡ record { below = []; locals = []; stack = reverse args } → free ≡ most_frames →
+      invoked host program free f (state_of (record d { values = values }) w left last u) ≡ called_with host program args f (state_of d w left last u)
+  called_as d values free args f w left last u e h =
+      ap (λ n. invoked host program n f (state_of (record d { values = values }) w left last u)) h
+      ∙ ap (λ (v : FrameValues). invoked host program most_frames f (state_of (record d { values = v }) w left last u)) e
+
+module _ {W R : Type 0} (host : HostMeaning W R) where
+  -- the whole run, from where both functions are called
+  pub runs_as : (m : Tree) (args : List ℕ) (p : Program) (values : Values) (w : W) (left : ℕ) (v : Outside) →
+      v.item_lacks v.items ≡ false → segments_fit m ≡ true → p ≡ program_in m → values ≡ first_values m →
+      both_run host p m args (record { values = values; world = w; left = left; last = left; outside = after_item v }) ≡ run_of host m args w left v
+  runs_as m args p values w left v supply fit e h =
+      let both = both_run host (program_in m) m args in
+      ap (λ q. both_run host q m args (record { values = values; world = w; left = left; last = left; outside = after_item v })) e
+      ∙ ap (λ (x : Values). both (record { values = x; world = w; left = left; last = left; outside = after_item v })) h
+      ∙ sym (ap (λ b. where_fit b both (record (outset_of m w left v) { outside = after_item v })) fit)
+      ∙ sym (ap (λ b. supplied b (outset_of m w left v) (where_fit (segments_fit m) both)) supply)
+
+  -- a segment that doesn't fit
+  pub unfit : (m : Tree) (args : List ℕ) (w : W) (left : ℕ) (v : Outside) → v.item_lacks v.items ≡ false → segments_fit m ≡ false →
+      Ended (end.Trap trap.OutOfBounds) (record (outset_of m w left v) { outside = after_item v }) ≡ run_of host m args w left v
+  unfit m args w left v supply fit =
+      let both = both_run host (program_in m) m args in
+      sym (ap (λ b. where_fit b both (record (outset_of m w left v) { outside = after_item v })) fit)
+      ∙ sym (ap (λ b. supplied b (outset_of m w left v) (where_fit (segments_fit m) both)) supply)
+
+-- ---- how many looks there were
+
+looks_past : (v : Outside) (events : List Event) → (past v events).looks ≡ v.looks + length (looks_of events)
+looks_past v [] = refl
+looks_past v (Looked a ∷ es) = looks_past (after_look v) es ∙ one_more v.looks (length (looks_of es))
+  where
+    one_more : (m n : ℕ) → suc m + n ≡ m + suc n
+    one_more m n = omega arith
+looks_past v (Supplied ∷ es) = looks_past (after_item v) es
+looks_past v (CallSupplied ∷ es) = looks_past (after_call v) es
+
+between : (m n k : ℕ) → k ≡ m + n → k - m ≡ n
+between m n k e = omega arith
+
+pub counted : {S : Type 0} (may : S → Option ℕ → S → Type 0) (looks : S → Option ℕ) →
+    ((old : S) (answer : Option ℕ) (new : S) → may old answer new → Rises 1 (looks old) (looks new)) →
+    (events : List Event) (old new : S) → Looks may old (looks_of events) new → (v : Outside) → CountsLooks (looks old) (looks new) v (past v events)
+counted may looks law events old new h v =
+    subst (λ n. Rises n (looks old) (looks new)) (sym (between v.looks (length (looks_of events)) (past v events).looks (looks_past v events)))
+    (Looks-rise may looks law (looks_of events) old new h)
