@@ -7,3 +7,4 @@ pub mod Turning
 pub mod Making
 pub mod Reached
 pub mod Whole
+pub mod GivenTypes

@@ -8,3 +8,4 @@ pub mod Turns
 pub mod Instances
 pub mod Running
 pub mod Made
+pub mod Given
