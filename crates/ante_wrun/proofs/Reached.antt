@@ -1,27 +1,26 @@
 -- The function that a valid module exports as `apply` is none of the host's: no host function takes three i64 and gives nothing.
-use Rattle.std.proofs.Common.{◌≡◌, ℕ, zero, suc, ◌<◌, Bool, true, false, not, ◌&&◌, cond, List, [], ◌∷◌, ◌++◌, length, map, Option, None, Some, slice_get, refl, sym, ap, subst, ◌∙◌, arith, inl, inr}
-use Rattle.std.specs.Prelude.{codes, slice_index_or, list_all, find, is_none, Any, IsTrue}
-use Rattle.std.specs.List.{zip}
+use Rattle.std.proofs.Common.{◌≡◌, ℕ, zero, suc, ◌<◌, Bool, true, false, not, ◌&&◌, cond, List, [], ◌∷◌, ◌++◌, length, Option, None, Some, slice_get, refl, sym, ap, subst, ◌∙◌, arith, inl, inr}
+use Rattle.std.specs.Prelude.{codes, slice_index_or, find, is_none, Any}
+use Rattle.std.specs.List.{list_all}
 use Rattle.std.specs.Str.{bytes_eq}
 use Rattle.std.specs.Option.{option_map}
 use Rattle.std.proofs.lemmas.Slice.Eq.{bytes_eq-Decides}
 use Rattle.ante_wtree.specs.declared.instructions.ValueKind.{ValueKind}
-use Rattle.ante_wtree.specs.declared.instructions.ValueKind.TheVariants.{I32, I64}
+use Rattle.ante_wtree.specs.declared.instructions.ValueKind.TheVariants.{I64}
 use Rattle.ante_wtree.specs.declared.modules.FuncType.{FuncType}
 use Rattle.ante_wtree.specs.declared.modules.Import.{Import}
-use Rattle.ante_wtree.specs.declared.modules.ImportKind.TheVariants as import
 use Rattle.ante_wtree.specs.declared.modules.ExportKind.{ExportKind}
 use Rattle.ante_wtree.specs.declared.modules.ExportKind.TheVariants as export
 use Rattle.ante_wtree.specs.declared.modules.Export.{Export}
-use Rattle.ante_wtree.specs.Intrinsics.{types, type_at}
+use Rattle.ante_wtree.specs.Intrinsics.{types as host_types, type_at}
 use Rattle.ante_wtree.specs.Trees.{Tree, Body}
 use Rattle.ante_wvalid.specs.declared.kinds.ModuleRule.TheVariants as rule
 use Rattle.ante_wvalid.specs.declared.kinds.InvalidKind.TheVariants as invalid
 use Rattle.ante_wvalid.specs.Typing.{kinds_of, type_numbered}
 use Rattle.ante_wvalid.specs.Modules.{function_of, imported, function_types, HasType, HostType, HasHostType, IsApply, Twice, IsValid}
-use Rattle.ante_wrun.specs.Meaning.{FunctionInstance, Own, Given, Missing, same_kinds}
+use Rattle.ante_wrun.specs.Meaning.{Given, same_kinds}
 use Rattle.ante_wrun.specs.Runs.{IsHosts}
-use Rattle.ante_wrun.specs.Instances.{given_as, given_functions, host_place, own, own_functions, program_in, is_function, apply_in}
+use Rattle.ante_wrun.specs.Instances.{given_as, given_functions, own, own_functions, program_in, is_function, apply_in}
 
 -- the parameters of `apply`
 abbrev three : List ValueKind
@@ -32,7 +31,7 @@ three = I64 ∷ I64 ∷ I64 ∷ []
 abbrev is_type_of_apply : List ValueKind × Option ValueKind → Bool
 is_type_of_apply t = same_kinds t.0 three && is_none t.1
 
-none_is : list_all (λ t. not (is_type_of_apply t)) types ≡ true
+none_is : list_all (λ t. not (is_type_of_apply t)) host_types ≡ true
 none_is = refl
 
 left_true : (a b : Bool) → (a && b) ≡ true → a ≡ true
@@ -50,7 +49,7 @@ all_at p (y ∷ ys) (suc n) x h e = all_at p ys n x (right_true (p y) (list_all 
 
 no_host : (host : ℕ) → type_at host ≡ Some (three, None) → ⊥
 no_host host h =
-    let e : not (is_type_of_apply (three, None)) ≡ true = all_at (λ t. not (is_type_of_apply t)) types host (three, None) none_is h in
+    let e : not (is_type_of_apply (three, None)) ≡ true = all_at (λ t. not (is_type_of_apply t)) host_types host (three, None) none_is h in
     cc
 
 -- hosts give a function of some name this type

@@ -1,8 +1,9 @@
 -- Whole runs, from what their calls answer.
-use Rattle.std.proofs.Common.{◌≡◌, ℕ, suc, ◌+◌, ◌-◌, true, false, List, [], ◌∷◌, length, Option, refl, ap, sym, subst, ◌∙◌, arith}
+use Rattle.std.proofs.Common.{◌≡◌, ℕ, suc, ◌+◌, ◌-◌, true, false, List, [], ◌∷◌, length, Option, None, Result, Ok, Err, refl, ap, sym, subst, ◌∙◌, arith}
 use Rattle.ante_base.specs.Stops.{Looks, Rises}
 use Rattle.ante_base.specs.LookCounts.{Looks-rise}
-use Rattle.std.specs.Prelude.{reverse}
+use Rattle.std.specs.Prelude.{reverse, IfOk}
+use Rattle.std.specs.declared.alloc.AllocError.{AllocError}
 use Rattle.ante_wmem.specs.Linear.{LinearMemory}
 use Rattle.ante_wmem.specs.HostCalls.{HostMeaning}
 use Rattle.ante_wmem.specs.declared.host.HostAnswer.{HostAnswer}
@@ -12,11 +13,13 @@ use Rattle.ante_wrun.specs.declared.ends.TrapKind.TheVariants as trap
 use Rattle.ante_wrun.specs.declared.ends.RunEnd.{RunEnd}
 use Rattle.ante_wrun.specs.declared.ends.RunEnd.TheVariants as end
 use Rattle.ante_wrun.specs.Effects.{Values}
+use Rattle.ante_wrun.specs.declared.machine.Called.{Called}
+use Rattle.ante_wrun.specs.Parts.{CallLeads}
 use Rattle.ante_wrun.specs.Frames.{FrameValues}
-use Rattle.ante_wrun.specs.Meaning.{Outside, after_look, after_item, after_call, Program, State, Outcome, Normal, Branch, Returned, Ended, Lacks, InHost, supplied, settled, and_then, call, invoked}
+use Rattle.ante_wrun.specs.Meaning.{Outside, after_look, after_item, after_call, Program, State, Outcome, Normal, Branch, Returned, Ended, Lacks, InHost, supplied, and_then, invoked}
 use Rattle.ante_wrun.specs.Machine.{state_of}
 use Rattle.ante_wrun.specs.Runs.{Event, Looked, Supplied, CallSupplied, looks_of, Begins, past, ByEvents, Wanting, Ends, Lacking}
-use Rattle.ante_wrun.specs.Running.{most_frames, called_with, outset_of, where_fit, both_run, run_of, CountsLooks}
+use Rattle.ante_wrun.specs.Running.{most_frames, called_with, outset_of, where_fit, both_run, run_of, RunAnswers, CountsLooks, NeverAsks, EndsSo}
 use Rattle.ante_wrun.specs.Instances.{segments_fit, program_in, first_values}
 
 -- what holds of an outside and the outside after the events, may be said in other words
@@ -34,18 +37,32 @@ module _ {W R : Type 0} (stands : W → ℕ → List ℕ → LinearMemory → �
   lacking_then w left u (InHost f args a n s) go h = h
 
   pub ends_then : (e : RunEnd R) (w : W) (left : ℕ) (u : Outside) (o : Outcome W R) (go : State W → Outcome W R) → (e ≡ end.Done → ⊥) → Ends stands e w left u o → Ends stands e w left u (and_then o go)
-  ends_then e w left u (Normal s) go no h = absurd (no h.0)
-  ends_then e w left u (Branch n s) go no h = h
-  ends_then e w left u (Returned s) go no h = h
-  ends_then e w left u (Ended f s) go no h = h
-  ends_then e w left u (Lacks s) go no h = h
-  ends_then e w left u (InHost f args a n s) go no h = h
+  ends_then e w left u (Normal s) go early h = absurd (early h.0)
+  ends_then e w left u (Branch n s) go early h = h
+  ends_then e w left u (Returned s) go early h = h
+  ends_then e w left u (Ended f s) go early h = h
+  ends_then e w left u (Lacks s) go early h = h
+  ends_then e w left u (InHost f args a n s) go early h = h
 
   pub done : (d : Data) (w : W) (left last : ℕ) (u : Outside) (o : Outcome W R) → o ≡ Normal (state_of d w left last u) → Ends stands end.Done w left u o
   done d w left last u o h = subst (Ends stands end.Done w left u) (sym h) (refl, refl, refl, refl)
 
   pub wanted_first : (s : State W) (go : State W → Outcome W R) → Wanting s.outside → Lacking stands s.world s.left s.outside (supplied (s.outside.item_lacks s.outside.items) s go)
   wanted_first s go want = subst (λ b. Lacking stands s.world s.left s.outside (supplied b s go)) (sym want.0) (refl, refl, refl)
+
+-- ---- want of memory
+
+module _ {S W R : Type 0} (stands : W → ℕ → List ℕ → LinearMemory → ℕ → HostAnswer R → W → Type 0) (may : S → Option ℕ → S → Type 0) (old new : S) (F : Outside → Outcome W R) where
+  abbrev Lacked : W → (left : ℕ) → Type 0
+  Lacked w left = ByEvents may old new (λ events. (v : Outside) → Begins v events → Wanting (past v events) → Lacking stands w left (past v events) (F v))
+
+  pub call_lacks : (r : Result (Called R) AllocError) (y : AllocError) (w : W) (left last : ℕ) → r ≡ Err y → Lacked w left →
+      ByEvents may old new (λ events. (v : Outside) → Begins v events → CallLeads stands (F v) r w left last (past v events))
+  call_lacks r y w left last e h = subst (λ x. ByEvents may old new (λ events. (v : Outside) → Begins v events → CallLeads stands (F v) x w left last (past v events))) (sym e) h
+
+  pub run_lacks : (r : Result (RunEnd R) AllocError) (y : AllocError) (w : W) (left : ℕ) → r ≡ Err y → Lacked w left →
+      ByEvents may old new (λ events. (v : Outside) → Begins v events → RunAnswers stands (F v) r w left (past v events))
+  run_lacks r y w left e h = subst (λ x. ByEvents may old new (λ events. (v : Outside) → Begins v events → RunAnswers stands (F v) x w left (past v events))) (sym e) h
 
 module _ {W R : Type 0} (host : HostMeaning W R) (program : Program) where
   -- a call with other operands and free frames
@@ -55,6 +72,14 @@ module _ {W R : Type 0} (host : HostMeaning W R) (program : Program) where
   called_as d values free args f w left last u e h =
       ap (λ n. invoked host program n f (state_of (record d { values = values }) w left last u)) h
       ∙ ap (λ (v : FrameValues). invoked host program most_frames f (state_of (record d { values = v }) w left last u)) e
+
+  pub recalled : {S : Type 0} (may : S → Option ℕ → S → Type 0) (old new : S) (d : Data) (values : FrameValues) (free : ℕ) (args : List ℕ) (f : ℕ) (w : W) (left last : ℕ) →
+      values ≡ record { below = []; locals = []; stack = reverse args } → free ≡ most_frames → (Q : Outcome W R → Outside → Type 0) →
+      ByEvents may old new (λ events. (v : Outside) → Begins v events → Q (invoked host program free f (state_of (record d { values = values }) w left last v)) (past v events)) →
+      ByEvents may old new (λ events. (v : Outside) → Begins v events → Q (called_with host program args f (state_of d w left last v)) (past v events))
+  recalled may old new d values free args f w left last e h Q =
+      by_events may old new (λ v u. Q (invoked host program free f (state_of (record d { values = values }) w left last v)) u) (λ v u. Q (called_with host program args f (state_of d w left last v)) u)
+      (λ v u. subst (λ o. Q o u) (called_as d values free args f w left last v e h))
 
 module _ {W R : Type 0} (host : HostMeaning W R) where
   -- the whole run, from where both functions are called
@@ -79,7 +104,7 @@ module _ {W R : Type 0} (host : HostMeaning W R) where
 -- ---- how many looks there were
 
 looks_past : (v : Outside) (events : List Event) → (past v events).looks ≡ v.looks + length (looks_of events)
-looks_past v [] = refl
+looks_past v [] = omega arith
 looks_past v (Looked a ∷ es) = looks_past (after_look v) es ∙ one_more v.looks (length (looks_of es))
   where
     one_more : (m n : ℕ) → suc m + n ≡ m + suc n
@@ -96,3 +121,20 @@ pub counted : {S : Type 0} (may : S → Option ℕ → S → Type 0) (looks : S 
 counted may looks law events old new h v =
     subst (λ n. Rises n (looks old) (looks new)) (sym (between v.looks (length (looks_of events)) (past v events).looks (looks_past v events)))
     (Looks-rise may looks law (looks_of events) old new h)
+
+-- ---- a stop that never asks
+
+module _ {S : Type 0} (may : S → Option ℕ → S → Type 0) (never : NeverAsks may) where
+  abbrev IsCalm : Outside → Type 0
+  IsCalm v = ((n : ℕ) → v.look_answer n ≡ None) × ((n : ℕ) → v.item_lacks n ≡ false) × ((n : ℕ) → v.call_lacks n ≡ false)
+
+  pub begins_calm : (events : List Event) (old new : S) → Looks may old (looks_of events) new → (v : Outside) → IsCalm v → Begins v events
+  begins_calm [] old new h v calm = tt
+  begins_calm (Looked a ∷ es) old new h v calm = (calm.0 v.looks ∙ sym (never old a h.0 h.1), begins_calm es h.0 new h.2 (after_look v) calm)
+  begins_calm (Supplied ∷ es) old new h v calm = (calm.1 v.items, begins_calm es old new h (after_item v) calm)
+  begins_calm (CallSupplied ∷ es) old new h v calm = (calm.2 v.calls, begins_calm es old new h (after_call v) calm)
+
+pub ok_ends : {W R : Type 0} (stands : W → ℕ → List ℕ → LinearMemory → ℕ → HostAnswer R → W → Type 0) (o : Outcome W R) (r : Result (RunEnd R) AllocError) (w : W) (left : ℕ) (u : Outside) →
+    RunAnswers stands o r w left u → IfOk r (λ e. EndsSo stands e w left o)
+ok_ends stands o (Ok e) w left u h = (u, h)
+ok_ends stands o (Err e) w left u h = tt

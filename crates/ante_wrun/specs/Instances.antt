@@ -1,7 +1,7 @@
--- An instance of a module before it runs: section 4.5.4 of WebAssembly Core 1.0. Where a valid module has what is asked for,
--- a module that isn't valid has 0, an empty list or no function.
-use Rattle.std.specs.Prelude.{ℕ, ◌+◌, ◌*◌, Bool, ◌&&◌, nat_le, min, List, [], ◌∷◌, ◌++◌, length, take, drop, replicate, map, codes, slice_get, position, find, list_all, fold, Option, None, Some, true, false}
-use Rattle.std.specs.List.{zip}
+-- An instance of a module before it runs: section 4.5.4 of WebAssembly Core 1.0. A function that no valid module has is
+-- `Missing`, and a constant that none has is 0.
+use Rattle.std.specs.Prelude.{ℕ, ◌+◌, ◌*◌, Bool, ◌&&◌, nat_le, min, List, [], ◌∷◌, ◌++◌, length, take, drop, replicate, map, codes, slice_get, position, find, fold, Option, None, Some, true, false}
+use Rattle.std.specs.List.{list_all, zip}
 use Rattle.std.specs.Str.{bytes_eq}
 use Rattle.std.specs.Option.{option_map}
 use Rattle.ante_wmem.specs.Linear.{LinearMemory, written}
@@ -14,7 +14,6 @@ use Rattle.ante_wtree.specs.declared.modules.Init.{Init}
 use Rattle.ante_wtree.specs.declared.modules.Init.TheVariants as init
 use Rattle.ante_wtree.specs.declared.modules.ExportKind.{ExportKind}
 use Rattle.ante_wtree.specs.declared.modules.ExportKind.TheVariants as export
-use Rattle.ante_wtree.specs.declared.modules.Export.{Export}
 use Rattle.ante_wtree.specs.declared.modules.Element.{Element}
 use Rattle.ante_wtree.specs.declared.modules.Segment.{Segment}
 use Rattle.ante_wtree.specs.Intrinsics.{names}

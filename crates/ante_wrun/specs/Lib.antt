@@ -9,3 +9,4 @@ pub mod Instances
 pub mod Running
 pub mod Made
 pub mod Given
+pub mod Parts

@@ -66,6 +66,19 @@ RunAnswers stands o (Err e) w left outside = Wanting outside → Lacking stands 
 abbrev pub CountsLooks : (old new : Option ℕ) → (before after : Outside) → Type 0
 CountsLooks old new before after = Rises (after.looks - before.looks) old new
 
+-- ---- a run that nothing from the outside ends
+
+-- there is always memory, and no look asks the run to stop
+abbrev pub undisturbed : Outside
+undisturbed = record { looks = 0; look_answer = λ n. None; items = 0; item_lacks = λ n. false; calls = 0; call_lacks = λ n. false }
+
+abbrev pub NeverAsks : {S : Type 0} → (may : S → Option ℕ → S → Type 0) → Type 0
+NeverAsks {S} may = (old : S) (answer : Option ℕ) (new : S) → may old answer new → answer ≡ None
+
+-- the outcome is this end, with this host and these steps left
+abbrev pub EndsSo : {W R : Type 0} → (stands : W → ℕ → List ℕ → LinearMemory → ℕ → HostAnswer R → W → Type 0) → RunEnd R → W → (left : ℕ) → Outcome W R → Type 0
+EndsSo stands e w left o = (after : Outside) × Ends stands e w left after o
+
 -- ---- what a run needs of its host's answers
 
 -- a reply that a function of this result may give

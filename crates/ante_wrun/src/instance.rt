@@ -1,13 +1,14 @@
 //! Making an instance of a module (section 4.5.4).
-ghost use Rattle.std.specs.Prelude.{◌≡◌, ◌+◌, ◌≤◌, ◌&&◌, [], ◌++◌, length, map, min, nat_le, slice_get, fold, find, position, list_all, codes, IfOk, OnOk, IsTrue, true, Any};
+ghost use Rattle.std.specs.Prelude.{◌≡◌, ◌+◌, ◌≤◌, ◌&&◌, [], ◌++◌, length, map, min, nat_le, slice_get, fold, find, position, codes, IfOk, OnOk, IsTrue, true, Any};
 ghost use Rattle.std.specs.Option.{option_copied, option_map};
+ghost use Rattle.std.specs.List.{list_all};
 ghost use Rattle.std.specs.Str.{bytes_eq};
 ghost use Rattle.ante_wtree.specs.Trees.{body_of, tree_of};
 ghost use Rattle.ante_wvalid.specs.Modules.{IsValid, OutOfBounds};
 ghost use Rattle.ante_wrun.specs.Machine.{values_of};
 ghost use Rattle.ante_wrun.specs.Control.{instance_of, program_of};
 ghost use Rattle.ante_wrun.specs.Instances.{host_place, given, given_functions, own, own_functions, constant, offset_of, first_globals, empty_table, most_pages, empty_memory, elements_fit, data_fits, segments_fit, with_element, with_segment, program_in, first_values, is_function, apply_in};
-ghost use Rattle.ante_wrun.specs.Made.{IsInstance};
+ghost use Rattle.ante_wrun.specs.Parts.{IsInstance};
 
 use crate::control::{Function, Functions};
 use crate::data::{Data, low};
@@ -161,8 +162,8 @@ fn most_pages(most: Option<u32>) -> u32
     ensures { result ≡ most_pages most }
 {
     match most {
-        Some(most) => { if most < PAGES { most } else { PAGES } }
-        None => PAGES,
+        Some(most) if most < PAGES => most,
+        Some(_) | None => PAGES,
     }
 }
 
