@@ -7,6 +7,5 @@ pub mod Runs
 pub mod Turns
 pub mod Instances
 pub mod Running
-pub mod Made
 pub mod Given
 pub mod Parts
