@@ -14,3 +14,4 @@ pub mod Reached
 pub mod Whole
 pub mod Programs
 pub mod Safe
+pub mod GivenTypes

@@ -8,4 +8,5 @@ pub mod Turns
 pub mod Soundness
 pub mod Instances
 pub mod Running
+pub mod Given
 pub mod Parts

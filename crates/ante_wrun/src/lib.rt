@@ -4,6 +4,7 @@
 mod control;
 mod data;
 mod ends;
+mod given;
 mod instance;
 mod machine;
 mod plain;
@@ -13,6 +14,7 @@ mod values;
 
 pub use ante_wmem::{Host, HostAnswer, HostFn};
 pub use ends::{RunEnd, TrapKind};
+pub use given::imports_have_host_types;
 pub use machine::Machine;
 
 #[cfg(test)]
