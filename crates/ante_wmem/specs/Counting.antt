@@ -1,5 +1,5 @@
--- A host that counts keeps its condition, by the cases of what it replies.
-use Rattle.std.proofs.Common.{◌≡◌, ℕ, suc, ◌+◌, ◌-◌, ◌^◌, ◌<◌, Bool, true, false, List, arith, refl}
+-- A host that counts its calls keeps its condition, by the cases of what it replies. The tests have such a host.
+use Rattle.std.proofs.Common.{◌≡◌, ℕ, ◌+◌, ◌-◌, ◌^◌, ◌<◌, Bool, true, false, arith}
 use Rattle.std.specs.Prelude.{if◌then◌else◌}
 use Rattle.ante_wmem.specs.Linear.{LinearMemory}
 use Rattle.ante_wmem.specs.HostCalls.{Outcome, value, nothing, refused, step_limit, Keeps}
