@@ -17,3 +17,6 @@ mod tables;
 pub use change::{Change, WriteError};
 pub use store::{Store, WorldMap};
 pub use tables::{Reading, Tables, Writing};
+
+#[cfg(test)]
+mod tests;

@@ -6,6 +6,8 @@ ghost use Rattle.ante_state.specs.Orders.{name_order};
 ghost use Rattle.ante_types.specs.World.{used};
 ghost use Rattle.ante_ram.specs.Usage.{used_of};
 ghost use Rattle.ante_store.specs.Bills.{quotas_of};
+ghost use Rattle.ante_sessions.specs.Seen.{map_stack, Throughout};
+ghost use Rattle.ante_store.specs.Later.{later, HasRoom};
 ghost use Rattle.ante_store.specs.Changes.{after, refusal, IsCause};
 ghost use Rattle.ante_store.specs.Worlds.{world_of, IsBilled};
 
@@ -17,7 +19,7 @@ use ante_ram::Usage;
 use ante_rows::Rows;
 use ante_sessions::{Kept, Sessions, Shape};
 use std::alloc::{AllocError, Global};
-use std::marker::Model;
+use std::marker::{Model, PhantomData};
 
 /// The world as contracts name it. None is ever made.
 #[derive(Drop)]
@@ -64,6 +66,20 @@ impl Model for Store {
 }
 
 impl Store {
+    /// The store over parts that keep the rule, whose revisions are counted from one more.
+    pub(crate) fn over(parts: Parts) -> Store
+        requires billed { Throughout IsBilled parts }
+        requires room { HasRoom parts }
+        ensures { result ≡ later (map_stack world_of parts) }
+    {
+        Store {
+            kept: Kept {
+                inner: parts,
+                shape: PhantomData,
+            },
+        }
+    }
+
     /// The tables and their rows.
     pub fn rows(&self) -> &Rows
         ensures tables { result.now.top.tables ≡ self.now.top.tables }
