@@ -7,7 +7,6 @@ mod apply_rows;
 mod billing;
 mod bills;
 mod change;
-mod laws;
 mod maps;
 mod parts;
 mod sizes;
