@@ -2,7 +2,7 @@
 ghost use Rattle.std.specs.Prelude.{◌≡◌, ◌+◌, ◌-◌, ◌^◌, ◌<◌, ◌==◌, if◌then◌else◌};
 ghost use Rattle.std.proofs.Common.{arith, refl};
 ghost use Rattle.ante_wmem.specs.HostCalls.{value, nothing, refused, step_limit};
-ghost use Rattle.ante_wmem.specs.Counting.{counted};
+ghost use Rattle.ante_wmem.specs.Keeping.{counted};
 ghost use Rattle.ante_wmem.specs.Linear.{is_inside, overwritten, low_bytes};
 
 use crate::{Host, HostAnswer, HostFn, Memory, OutOfBounds, Width};
