@@ -1,5 +1,5 @@
 -- The host's replies are of its functions' types.
-use Rattle.std.proofs.Common.{◌≡◌, ℕ, ◌%◌, ◌^◌, ◌<◌, ◌-◌, Bool, true, false, nat_lt, List, Option, None, Some, refl, subst, sym, arith, lt-ltb, drop}
+use Rattle.std.proofs.Common.{◌≡◌, ℕ, ◌%◌, ◌^◌, ◌<◌, ◌-◌, Bool, true, false, nat_lt, List, Option, None, Some, subst, sym, arith, lt-ltb, drop}
 use Rattle.std.specs.Prelude.{if◌then◌else◌}
 use Rattle.ante_wmem.specs.Linear.{LinearMemory}
 use Rattle.ante_wmem.specs.HostCalls.{Reply, Outcome, step_limit}
