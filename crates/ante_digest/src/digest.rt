@@ -1,6 +1,5 @@
 ghost use Rattle.std.specs.Prelude.{◌≡◌, ◌++◌, [], ◌∷◌};
 ghost use Rattle.sha2.specs.Sha256.{sha256};
-ghost use Rattle.ante_objects.specs.declared.objects.ObjectsMap.{ObjectsMap};
 ghost use Rattle.ante_digest.specs.Feeds.{Feeds};
 ghost use Rattle.ante_digest.specs.Entries.{counted, packed_account, packed_permission, packed_link, packed_share, packed_recent, packed_reference, packed_table, packed_row};
 ghost use Rattle.ante_digest.specs.Digest.{packed_lists};

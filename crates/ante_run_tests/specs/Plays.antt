@@ -3,7 +3,7 @@ use Rattle.std.specs.Prelude.{◌≡◌, ℕ, ◌-◌, ◌%◌, ◌^◌, nat_lt,
 use Rattle.ante_wmem.specs.Linear.{LinearMemory, is_inside, bytes_at, little_endian, low_bytes, written}
 use Rattle.ante_wmem.specs.declared.host.HostAnswer.{HostAnswer}
 use Rattle.ante_wmem.specs.declared.host.HostAnswer.TheVariants as host_answer
-use Rattle.ante_wmem.specs.HostCalls.{Reply, Outcome, value, nothing, exit, refused, step_limit, Keeps}
+use Rattle.ante_wmem.specs.HostCalls.{Reply, Outcome, value, nothing, exit, refused, step_limit}
 use Rattle.ante_wtree.specs.declared.instructions.ValueKind.{ValueKind}
 use Rattle.ante_wtree.specs.declared.instructions.ValueKind.TheVariants.{I32, I64}
 use Rattle.ante_wtree.specs.Intrinsics.{type_at}
@@ -78,11 +78,3 @@ Answers reply host_answer.Exit host memory = reply ≡ exit host memory
 Answers reply (host_answer.Refused r) host memory = reply ≡ refused r
 Answers reply host_answer.StepLimit host memory = reply ≡ step_limit
 Answers reply host_answer.OutOfMemory host memory = Unit {0}
-
--- A host that may always be called stays so.
-pub always_keeps : (reply : Reply Player ℕ) (host : Player) (before after : ℕ) → Keeps (λ host function arguments left. Unit {0}) host before reply after
-always_keeps (value n next memory) host before after = λ function arguments less lt holds. tt
-always_keeps (nothing next memory) host before after = λ function arguments less lt holds. tt
-always_keeps (exit next memory) host before after = tt
-always_keeps (refused n) host before after = tt
-always_keeps step_limit host before after = tt
