@@ -92,15 +92,6 @@ overfull_by c w placed room large =
     ∙ ap (λ full. cond (full || is_too_much c w) (Some error.RamTotal) None) room
     ∙ ap (λ over. cond over (Some error.RamTotal) None) (over (used_by_all (after c w)) (2 ^ 62) large)
 
--- where its row stands comes first, and then whether its table is full
-pub refused_first : (c : Change) (w : World) (e : WriteError) → misplaced c w ≡ Some e → refusal c w ≡ Some e
-refused_first c w e placed = ap (λ first. option_or first (cond (is_full c w || is_too_much c w) (Some error.RamTotal) None)) placed
-
-pub refused_full : (c : Change) (w : World) → misplaced c w ≡ None → is_full c w ≡ true → refusal c w ≡ Some error.RamTotal
-refused_full c w placed full =
-    ap (λ first. option_or first (cond (is_full c w || is_too_much c w) (Some error.RamTotal) None)) placed
-    ∙ ap (λ full. cond (full || is_too_much c w) (Some error.RamTotal) None) full
-
 -- the bills that go are a part of what their payers use
 pub leads_within : (c : Change) (gone come : List (Name × ℕ)) (old : Maps) (x : RowsMap × ObjectsMap) → IsBilled old → Leads c gone come old x →
     (account : Name) → paid account gone ≤ used_of (find name_order account old.1)

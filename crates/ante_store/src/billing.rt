@@ -11,7 +11,6 @@ ghost use Rattle.ante_store.specs.Applied.{IsUnpaid};
 
 use crate::bills::{Bill, Bills};
 use crate::change::WriteError;
-use crate::laws::names_are_ordered;
 use crate::parts::Parts;
 use ante_pack::Name;
 use ante_ram::{RamFault, Usage};
@@ -55,7 +54,6 @@ pub(crate) fn lower_all(alloc: Global, usage: &mut Usage, bills: &[Bill]) -> Res
     ensures top { usage.new ≡ with_top usage.new.top usage.old }
     ensures fault { IfErr result (λ fault. fault ≡ OutOfMemory) }
 {
-    names_are_ordered();
     for (payer, size) in bills {
         lower(alloc, usage, *payer, *size)?;
     }
@@ -72,7 +70,6 @@ pub(crate) fn raise_all(alloc: Global, usage: &mut Usage, bills: &[Bill]) -> Res
     ensures total { result ≡ Err RamTotal → 2 ^ 62 < usage_sum usage.old.top + sizes bills.now }
     ensures small { OnOk result (usage_sum usage.old.top + sizes bills.now ≤ 2 ^ 62) }
 {
-    names_are_ordered();
     for (payer, size) in bills {
         raise(alloc, usage, *payer, *size)?;
     }

@@ -9,7 +9,6 @@ mod bills;
 mod change;
 mod digest;
 mod genesis;
-mod laws;
 mod maps;
 mod parts;
 mod sizes;

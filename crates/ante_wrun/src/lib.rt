@@ -4,12 +4,18 @@
 mod control;
 mod data;
 mod ends;
+mod given;
+mod instance;
+mod machine;
 mod plain;
 mod run;
 mod thread;
 mod values;
 
+pub use ante_wmem::{Host, HostAnswer, HostFn};
 pub use ends::{RunEnd, TrapKind};
+pub use given::imports_have_host_types;
+pub use machine::Machine;
 
 #[cfg(test)]
 mod tests;

@@ -1,0 +1,9 @@
+use Rattle.std.proofs.Common.{◌≡◌, ◌++◌, length, map}
+use Rattle.ante_wrun.specs.Instances.{constant}
+use Rattle.ante_wrun.proofs.instance.first_globals.Given as goal
+
+abbrev pub invariant-globals : goal.invariant-globals
+invariant-globals l = l.values.items ++ map (λ g. constant g.init) l.rest ≡ map (λ g. constant g.init) l.fn.globals
+
+abbrev pub decreases-globals : goal.decreases-globals
+decreases-globals l = length l.rest

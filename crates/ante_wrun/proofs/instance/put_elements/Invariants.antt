@@ -1,0 +1,10 @@
+use Rattle.std.proofs.Common.{◌≡◌, length, true}
+use Rattle.std.specs.Prelude.{fold}
+use Rattle.ante_wrun.specs.Instances.{with_element, elements_fit}
+use Rattle.ante_wrun.proofs.instance.put_elements.Given as goal
+
+abbrev pub invariant-elements : goal.invariant-elements
+invariant-elements l = (fold with_element l.table l.rest ≡ fold with_element l.fn.table l.fn.elements) × (elements_fit (length l.table) l.rest ≡ true)
+
+abbrev pub decreases-elements : goal.decreases-elements
+decreases-elements l = length l.rest

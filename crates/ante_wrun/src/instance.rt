@@ -1,0 +1,320 @@
+//! Making an instance of a module (section 4.5.4).
+ghost use Rattle.std.specs.Prelude.{◌≡◌, ◌+◌, ◌≤◌, ◌&&◌, [], ◌++◌, length, map, min, nat_le, slice_get, fold, find, position, codes, IfOk, OnOk, IsTrue, true, Any};
+ghost use Rattle.std.specs.Option.{option_copied, option_map};
+ghost use Rattle.std.specs.List.{list_all};
+ghost use Rattle.std.specs.Str.{bytes_eq};
+ghost use Rattle.ante_wtree.specs.Trees.{body_of, tree_of};
+ghost use Rattle.ante_wvalid.specs.Modules.{IsValid, OutOfBounds};
+ghost use Rattle.ante_wrun.specs.Machine.{values_of};
+ghost use Rattle.ante_wrun.specs.Control.{instance_of, program_of};
+ghost use Rattle.ante_wrun.specs.Instances.{host_place, given, given_functions, own, own_functions, constant, offset_of, first_globals, empty_table, most_pages, empty_memory, elements_fit, data_fits, segments_fit, with_element, with_segment, program_in, first_values, is_function, apply_in};
+ghost use Rattle.ante_wrun.specs.Parts.{IsInstance};
+
+use crate::control::{Function, Functions};
+use crate::data::{Data, low};
+use crate::values::ValueStack;
+use ante_wmem::Memory;
+use ante_wtree::{
+    Code, Element, Export, ExportKind, FuncType, Global, Import, ImportKind, Init, Limits, Module,
+    Segment, host_number,
+};
+use std::alloc::{AllocError, Global as Heap};
+
+/// An instance of which no function was called.
+#[derive(Drop)]
+pub(crate) struct Instance<'a> {
+    pub(crate) functions: Functions<'a>,
+    pub(crate) data: Data,
+}
+
+/// The most pages that a memory has.
+const PAGES: u32 = 528;
+
+fn type_at(types: &[FuncType], number: u32) -> Option<&FuncType>
+    ensures { option_copied result ≡ slice_get types.now number }
+{
+    types.get(number as usize)
+}
+
+fn host_place(name: &[u8]) -> Option<u32>
+    ensures { result ≡ host_place name.now }
+{
+    host_number(name)
+}
+
+fn given<'a>(types: &'a [FuncType], kind: u32, name: &[u8]) -> Function<'a>
+    ensures { instance_of result ≡ given (slice_get types.entry.now kind) (host_place name.now) }
+{
+    let Some(kind) = type_at(types, kind) else {
+        return Function::Missing;
+    };
+    match host_place(name) {
+        Some(number) => Function::Host { kind, number },
+        None => Function::Missing,
+    }
+}
+
+fn given_functions<'a>(
+    alloc: Heap,
+    types: &'a [FuncType],
+    imports: &[Import],
+) -> Result<Vec<Function<'a>>, AllocError>
+    ensures { IfOk result (λ all. map instance_of all.items ≡ given_functions types.entry.now imports.now) }
+{
+    let mut all = Vec::new(alloc);
+    let mut rest = imports;
+    'imports: while let Some((import, tail)) = rest.split_first() {
+        if let ImportKind::Function(kind) = import.kind {
+            all.push(given(types, kind, import.name.as_slice()))?;
+        }
+        rest = tail;
+    }
+    Ok(all)
+}
+
+/// How many locals a body has beside the parameters. More than can be numbered want more memory than there is.
+fn local_count(_alloc: Heap, code: &Code) -> Result<u32, AllocError>
+    ensures { IfOk result (λ count. count ≡ length code.now.locals) }
+{
+    let count = code.locals.len();
+    if count > u32::MAX as usize {
+        return Err(AllocError);
+    }
+    Ok(count as u32)
+}
+
+fn own<'a>(
+    alloc: Heap,
+    types: &'a [FuncType],
+    kind: u32,
+    code: &'a Code,
+) -> Result<Function<'a>, AllocError>
+    ensures { IfOk result (λ f. instance_of f ≡ own (slice_get types.entry.now kind) (body_of code.entry.now)) }
+{
+    let locals = local_count(alloc, code)?;
+    let body = code.body.as_slice();
+    match type_at(types, kind) {
+        Some(kind) => Ok(Function::Own { kind, locals, body }),
+        None => Ok(Function::Missing),
+    }
+}
+
+/// Adds the module's own functions.
+fn add_own<'a>(
+    all: &mut Vec<Function<'a>>,
+    alloc: Heap,
+    types: &'a [FuncType],
+    kinds: &[u32],
+    codes: &'a [Code],
+) -> Result<(), AllocError>
+    ensures { OnOk result (map instance_of all.new.items ≡ map instance_of all.old.items ++ own_functions types.entry.now kinds.now (map body_of codes.entry.now)) }
+{
+    let (mut kind, mut code) = (kinds, codes);
+    'functions: while let Some((number, kinds)) = kind.split_first() {
+        let Some((first, codes)) = code.split_first() else {
+            return Ok(());
+        };
+        all.push(own(alloc, types, *number, first)?)?;
+        kind = kinds;
+        code = codes;
+    }
+    Ok(())
+}
+
+fn constant(init: Init) -> u64
+    ensures { result ≡ constant init }
+{
+    match init {
+        Init::Const32(bits) => u64::from(bits),
+        Init::Const64(bits) => bits,
+        Init::GlobalGet(_) => 0,
+    }
+}
+
+fn offset_of(init: Init) -> u32
+    ensures { result ≡ offset_of init }
+{
+    low(constant(init))
+}
+
+fn first_globals(alloc: Heap, globals: &[Global]) -> Result<Vec<u64>, AllocError>
+    ensures { IfOk result (λ values. values.items ≡ map (λ g. constant g.init) globals.now) }
+{
+    let mut values = Vec::new(alloc);
+    let mut rest = globals;
+    'globals: while let Some((global, tail)) = rest.split_first() {
+        values.push(constant(global.init))?;
+        rest = tail;
+    }
+    Ok(values)
+}
+
+fn empty_table(alloc: Heap, limits: &[Limits]) -> Result<Vec<Option<u32>>, AllocError>
+    ensures { IfOk result (λ table. table.items ≡ empty_table limits.now) }
+{
+    let Some(limits) = limits.first() else {
+        return Ok(Vec::new(alloc));
+    };
+    Ok(vec![in alloc; None; limits.least as usize]?)
+}
+
+fn most_pages(most: Option<u32>) -> u32
+    ensures { result ≡ most_pages most }
+{
+    match most {
+        Some(most) if most < PAGES => most,
+        Some(_) | None => PAGES,
+    }
+}
+
+fn empty_memory(alloc: Heap, limits: &[Limits]) -> Result<Memory, AllocError>
+    requires { Any (OutOfBounds 528) limits.now → ⊥ }
+    ensures { IfOk result (λ memory. memory ≡ empty_memory limits.now) }
+{
+    match limits.first() {
+        Some(limits) => Memory::new(alloc, limits.least, most_pages(limits.most)),
+        None => Memory::new(alloc, 0, 0),
+    }
+}
+
+fn fits(at: u32, count: usize, bound: usize) -> bool
+    ensures { result ≡ nat_le (at + count) bound }
+{
+    at as usize <= bound && count <= bound - at as usize
+}
+
+fn elements_fit(places: usize, elements: &[Element]) -> bool
+    ensures { result ≡ elements_fit places elements.now }
+{
+    elements.iter().all(|element| fits(offset_of(element.offset), element.functions.len(), places))
+}
+
+fn data_fits(count: usize, segments: &[Segment]) -> bool
+    ensures { result ≡ data_fits count segments.now }
+{
+    segments.iter().all(|segment| fits(offset_of(segment.offset), segment.bytes.len(), count))
+}
+
+/// Writes the numbers of a segment's functions.
+fn put_element(table: &mut [Option<u32>], element: &Element)
+    requires { offset_of element.now.offset + length element.now.functions ≤ length table.old }
+    ensures { table.new ≡ with_element table.old element.now }
+{
+    let mut at = offset_of(element.offset) as usize;
+    let mut rest = element.functions.as_slice();
+    'functions: while let Some((function, tail)) = rest.split_first() {
+        table[at] = Some(*function);
+        at += 1;
+        rest = tail;
+    }
+}
+
+fn put_elements(table: &mut [Option<u32>], elements: &[Element])
+    requires { elements_fit (length table.old) elements.now ≡ true }
+    ensures { table.new ≡ fold with_element table.old elements.now }
+{
+    let mut rest = elements;
+    'elements: while let Some((element, tail)) = rest.split_first() {
+        put_element(table, element);
+        rest = tail;
+    }
+}
+
+/// Writes a segment's bytes.
+fn put_segment(memory: &mut Memory, segment: &Segment)
+    requires { offset_of segment.now.offset + length segment.now.bytes ≤ length memory.old.bytes }
+    ensures { memory.new ≡ with_segment memory.old segment.now }
+{
+    if memory
+        .write_bytes(offset_of(segment.offset), segment.bytes.as_slice())
+        .is_err()
+    {
+        unreachable!();
+    }
+}
+
+fn put_segments(memory: &mut Memory, segments: &[Segment])
+    requires { data_fits (length memory.old.bytes) segments.now ≡ true }
+    ensures { memory.new ≡ fold with_segment memory.old segments.now }
+{
+    let mut rest = segments;
+    'segments: while let Some((segment, tail)) = rest.split_first() {
+        put_segment(memory, segment);
+        rest = tail;
+    }
+}
+
+fn functions_of(alloc: Heap, module: &Module) -> Result<Functions<'_>, AllocError>
+    ensures { IfOk result (λ f. program_of f ≡ record (program_in (tree_of module.now)) { table = empty_table module.now.table }) }
+{
+    let types = module.types.as_slice();
+    let mut all = given_functions(alloc, types, module.imports.as_slice())?;
+    add_own(
+        &mut all,
+        alloc,
+        types,
+        module.functions.as_slice(),
+        module.codes.as_slice(),
+    )?;
+    let table = empty_table(alloc, module.table.as_slice())?;
+    Ok(Functions { types, all, table })
+}
+
+fn data_of(alloc: Heap, module: &Module) -> Result<Data, AllocError>
+    requires { IsValid (tree_of module.now) }
+    ensures { IfOk result (λ d. values_of d ≡ record (first_values (tree_of module.now)) { memory = empty_memory module.now.memory }) }
+{
+    Ok(Data {
+        values: ValueStack::new(alloc),
+        globals: first_globals(alloc, module.globals.as_slice())?,
+        memory: empty_memory(alloc, module.memory.as_slice())?,
+    })
+}
+
+/// Whether all segments fit.
+fn segments_fit(module: &Module, places: usize, count: usize) -> bool
+    ensures { result ≡ (elements_fit places module.now.elements && data_fits count module.now.segments) }
+{
+    elements_fit(places, module.elements.as_slice()) && data_fits(count, module.segments.as_slice())
+}
+
+/// Makes the instance, or none where a segment doesn't fit.
+pub(crate) fn instantiate(alloc: Heap, module: &Module) -> Result<Option<Instance<'_>>, AllocError>
+    requires { IsValid (tree_of module.now) }
+    ensures { IfOk result (IsInstance (tree_of module.now)) }
+{
+    let mut functions = functions_of(alloc, module)?;
+    let mut data = data_of(alloc, module)?;
+    let places = functions.table.as_slice().len();
+    let count = 65_536 * data.memory.pages() as usize;
+    if !segments_fit(module, places, count) {
+        return Ok(None);
+    }
+    put_elements(functions.table.as_mut_slice(), module.elements.as_slice());
+    put_segments(&mut data.memory, module.segments.as_slice());
+    Ok(Some(Instance { functions, data }))
+}
+
+fn same_bytes(one: &[u8], two: &[u8]) -> bool
+    ensures { result ≡ bytes_eq one.now two.now }
+{
+    one == two
+}
+
+fn is_apply(export: &Export) -> bool
+    ensures { result ≡ (bytes_eq export.now.name (codes "apply") && is_function export.now.kind) }
+{
+    same_bytes(export.name.as_slice(), b"apply") && matches!(export.kind, ExportKind::Function)
+}
+
+/// The number of the function that is exported as `apply`.
+pub(crate) fn apply_index(module: &Module) -> Option<u32>
+    ensures { result ≡ apply_in (tree_of module.now) }
+{
+    let found = module
+        .exports
+        .as_slice()
+        .iter()
+        .find(|export| is_apply(export));
+    found.map(|export| export.index)
+}

@@ -1,0 +1,270 @@
+//! The public call.
+ghost use Rattle.std.specs.Prelude.{◌≡◌, ℕ, ◌≤◌, [], length, reverse, Ok, IfOk};
+ghost use Rattle.ante_wtree.specs.Trees.{tree_of};
+ghost use Rattle.ante_wvalid.specs.Modules.{IsValid};
+ghost use Rattle.ante_wrun.specs.Meaning.{Outside};
+ghost use Rattle.ante_wrun.specs.Machine.{state_of};
+ghost use Rattle.ante_wrun.specs.Control.{program_of};
+ghost use Rattle.ante_wrun.specs.Runs.{Begins, past, ByEvents, Sound, MayCall, MayBelow, IsHosts};
+ghost use Rattle.ante_wrun.specs.Instances.{program_in, apply_in};
+ghost use Rattle.ante_wrun.specs.Running.{most_frames, called_with, start_runs, apply_runs, both_run, run_of, RunAnswers, CountsLooks, NeverAsks, EndsSo, undisturbed, AskedAt, AnswersTyped};
+ghost use Rattle.ante_wrun.specs.Parts.{OnReturn, CallLeads};
+
+use crate::control::Functions;
+use crate::data::Data;
+use crate::ends::{RunEnd, TrapKind};
+use crate::instance::{Instance, apply_index, instantiate};
+use crate::run::invoke;
+use crate::thread::Thread;
+use crate::values::ValueStack;
+use ante_base::Stop;
+use ante_stack::Stack;
+use ante_wmem::Host;
+use ante_wtree::Module;
+use ante_wvalid::ValidModule;
+use std::alloc::{AllocError, Global};
+
+/// What a call from outside came to.
+#[derive(Drop)]
+pub(crate) enum Called<R> {
+    /// The function returned, and left this.
+    Returned(Data),
+    Ended(RunEnd<R>),
+}
+
+#[tactic(auto, unfolding(crate::specs::Running::most_frames))]
+fn most_frames() -> u32
+    ensures { result ≡ most_frames }
+{
+    250
+}
+
+/// These values as operands, the last one topmost.
+fn operands(alloc: Global, args: &[u64]) -> Result<ValueStack, AllocError>
+    ensures { IfOk result (λ values. values ≡ record { below = []; locals = []; stack = reverse args.now }) }
+{
+    let mut values = ValueStack::new(alloc);
+    let mut rest = args;
+    'each: while let Some((value, tail)) = rest.split_first() {
+        values.push(alloc, *value)?;
+        rest = tail;
+    }
+    Ok(values)
+}
+
+/// Calls a function with these arguments, as the first frame.
+fn call_with<'a, H: Host, P: Stop>(
+    state: Data,
+    functions: &Functions<'a>,
+    alloc: Global,
+    host: &mut H,
+    stop: &mut P,
+    left: &mut u64,
+    last: &mut u64,
+    function: u32,
+    args: &[u64],
+) -> Result<Called<H::Refusal>, AllocError>
+    requires below { MayBelow H.allowed (program_of functions.now) host.old left.old }
+    requires here { IsHosts (program_of functions.now) function → MayCall H.allowed (program_of functions.now) host.old left.old }
+    requires sound { Sound (λ outside. called_with H.meaning (program_of functions.now) args.now function (state_of state host.old left.old last.old outside)) }
+    ensures leads { let program = program_of functions.now in
+        ByEvents P.may stop.old stop.new (λ events. (outside : Outside) → Begins outside events →
+        CallLeads H.stands (called_with H.meaning program args.now function (state_of state host.old left.old last.old outside))
+        result host.new left.new last.new (past outside events)) }
+    ensures allowed { IfOk result (λ called. OnReturn called (MayBelow H.allowed (program_of functions.now) host.new left.new)) }
+    ensures cut { (at : ℕ) → result ≡ Ok (Called.Ended (RunEnd.Cut at)) → AskedAt P.may at stop.new }
+    ensures falls { left.new ≤ left.old }
+{
+    let values = operands(alloc, args)?;
+    let mut thread = Thread {
+        code: &[],
+        frames: Stack::new(alloc),
+        state: Data {
+            values,
+            globals: state.globals,
+            memory: state.memory,
+        },
+        free: most_frames(),
+    };
+    let ended = invoke(
+        &mut thread,
+        functions,
+        alloc,
+        host,
+        stop,
+        left,
+        last,
+        function,
+    )?;
+    match ended {
+        Some(end) => Ok(Called::Ended(end)),
+        None => Ok(Called::Returned(thread.state)),
+    }
+}
+
+/// Calls the start function, where there is one.
+fn call_start<'a, H: Host, P: Stop>(
+    state: Data,
+    functions: &Functions<'a>,
+    alloc: Global,
+    host: &mut H,
+    stop: &mut P,
+    left: &mut u64,
+    last: &mut u64,
+    start: Option<u32>,
+) -> Result<Called<H::Refusal>, AllocError>
+    requires below { MayBelow H.allowed (program_of functions.now) host.old left.old }
+    requires here { MayCall H.allowed (program_of functions.now) host.old left.old }
+    requires sound { Sound (λ outside. start_runs H.meaning (program_of functions.now) start (state_of state host.old left.old last.old outside)) }
+    ensures leads { let program = program_of functions.now in
+        ByEvents P.may stop.old stop.new (λ events. (outside : Outside) → Begins outside events →
+        CallLeads H.stands (start_runs H.meaning program start (state_of state host.old left.old last.old outside))
+        result host.new left.new last.new (past outside events)) }
+    ensures allowed { IfOk result (λ called. OnReturn called (MayBelow H.allowed (program_of functions.now) host.new left.new)) }
+    ensures cut { (at : ℕ) → result ≡ Ok (Called.Ended (RunEnd.Cut at)) → AskedAt P.may at stop.new }
+    ensures falls { left.new ≤ left.old }
+{
+    match start {
+        Some(function) => call_with(
+            state,
+            functions,
+            alloc,
+            host,
+            stop,
+            left,
+            last,
+            function,
+            &[],
+        ),
+        None => Ok(Called::Returned(state)),
+    }
+}
+
+/// Calls `apply`.
+fn call_apply<'a, H: Host, P: Stop>(
+    state: Data,
+    functions: &Functions<'a>,
+    alloc: Global,
+    host: &mut H,
+    stop: &mut P,
+    left: &mut u64,
+    last: &mut u64,
+    module: &Module,
+    args: &[u64],
+) -> Result<RunEnd<H::Refusal>, AllocError>
+    requires valid { IsValid (tree_of module.now) }
+    requires program { program_of functions.now ≡ program_in (tree_of module.now) }
+    requires below { MayBelow H.allowed (program_of functions.now) host.old left.old }
+    requires sound { Sound (λ outside. apply_runs H.meaning (program_of functions.now) (apply_in (tree_of module.now)) args.now (state_of state host.old left.old last.old outside)) }
+    ensures cut { (at : ℕ) → result ≡ Ok (RunEnd.Cut at) → AskedAt P.may at stop.new }
+    ensures falls { left.new ≤ left.old }
+    ensures ends { ByEvents P.may stop.old stop.new (λ events. (outside : Outside) → Begins outside events →
+        RunAnswers H.stands (apply_runs H.meaning (program_of functions.now) (apply_in (tree_of module.now)) args.now (state_of state host.old left.old last.old outside))
+        result host.new left.new (past outside events)) }
+{
+    let Some(apply) = apply_index(module) else {
+        unreachable!()
+    };
+    match call_with(state, functions, alloc, host, stop, left, last, apply, args)? {
+        Called::Returned(_) => Ok(RunEnd::Done),
+        Called::Ended(end) => Ok(end),
+    }
+}
+
+/// Calls the start function and then `apply`.
+fn call_both<'a, H: Host, P: Stop>(
+    state: Data,
+    functions: &Functions<'a>,
+    alloc: Global,
+    host: &mut H,
+    stop: &mut P,
+    left: &mut u64,
+    module: &Module,
+    args: &[u64],
+) -> Result<RunEnd<H::Refusal>, AllocError>
+    requires valid { IsValid (tree_of module.now) }
+    requires program { program_of functions.now ≡ program_in (tree_of module.now) }
+    requires allowed { MayCall H.allowed (program_of functions.now) host.old left.old }
+    requires answers { AnswersTyped H.allowed H.meaning (program_in (tree_of module.now)) }
+    requires globals { length state.globals.items ≡ length module.now.globals }
+    requires arguments { length args.now ≡ 3 }
+    ensures cut { (at : ℕ) → result ≡ Ok (RunEnd.Cut at) → AskedAt P.may at stop.new }
+    ensures falls { left.new ≤ left.old }
+    ensures ends { ByEvents P.may stop.old stop.new (λ events. (outside : Outside) → Begins outside events →
+        RunAnswers H.stands (both_run H.meaning (program_of functions.now) (tree_of module.now) args.now (state_of state host.old left.old left.old outside))
+        result host.new left.new (past outside events)) }
+{
+    let mut last = *left;
+    let start = module.start;
+    match call_start(state, functions, alloc, host, stop, left, &mut last, start)? {
+        Called::Returned(state) => call_apply(
+            state, functions, alloc, host, stop, left, &mut last, module, args,
+        ),
+        Called::Ended(end) => Ok(end),
+    }
+}
+
+/// Makes an instance of the module and runs it.
+fn run_module<H: Host, P: Stop>(
+    alloc: Global,
+    module: &Module,
+    args: &[u64],
+    host: &mut H,
+    stop: &mut P,
+    left: &mut u64,
+) -> Result<RunEnd<H::Refusal>, AllocError>
+    requires valid { IsValid (tree_of module.now) }
+    requires allowed { MayCall H.allowed (program_in (tree_of module.now)) host.old left.old }
+    requires answers { AnswersTyped H.allowed H.meaning (program_in (tree_of module.now)) }
+    requires arguments { length args.now ≡ 3 }
+    ensures cut { (at : ℕ) → result ≡ Ok (RunEnd.Cut at) → AskedAt P.may at stop.new }
+    ensures falls { left.new ≤ left.old }
+    ensures ends { ByEvents P.may stop.old stop.new (λ events. (outside : Outside) → Begins outside events →
+        RunAnswers H.stands (run_of H.meaning (tree_of module.now) args.now host.old left.old outside) result host.new left.new (past outside events)) }
+{
+    let Some(instance) = instantiate(alloc, module)? else {
+        return Ok(RunEnd::Trap(TrapKind::OutOfBounds));
+    };
+    let Instance { functions, data } = instance;
+    call_both(data, &functions, alloc, host, stop, left, module, args)
+}
+
+/// What runs contracts. It keeps nothing between runs.
+#[derive(Clone, Copy, PartialEq, Eq, Debug)]
+pub struct Machine;
+
+impl Machine {
+    pub fn new() -> Machine {
+        Machine
+    }
+
+    /// Makes an instance of the module, calls its start function, where there is one, and then its `apply` with three
+    /// arguments. `left` are the steps that may be taken. Looks at the stop each time that the steps left, in rounds of
+    /// 1,024, have come into a lower round. A segment that doesn't fit is a trap before anything runs.
+    ///
+    /// After want of memory and after a cut, the host and `left` are as the last instruction done, or the host's own
+    /// refused call, left them.
+    pub fn run<H: Host, P: Stop>(
+        &mut self,
+        alloc: Global,
+        module: &ValidModule,
+        args: [u64; 3],
+        host: &mut H,
+        stop: &mut P,
+        left: &mut u64,
+    ) -> Result<RunEnd<H::Refusal>, AllocError>
+        // The host allows each import, with all arguments of its type, and answers as a function of that type does.
+        requires allowed { MayCall H.allowed (program_in (tree_of module.now)) host.old left.old }
+        requires answers { AnswersTyped H.allowed H.meaning (program_in (tree_of module.now)) }
+        ensures ends { ByEvents P.may stop.old stop.new (λ events. (outside : Outside) → Begins outside events →
+            RunAnswers H.stands (run_of H.meaning (tree_of module.now) args host.old left.old outside) result host.new left.new (past outside events)
+            × CountsLooks (P.looks stop.old) (P.looks stop.new) outside (past outside events)) }
+        ensures cut { (at : ℕ) → result ≡ Ok (RunEnd.Cut at) → AskedAt P.may at stop.new }
+        ensures falls { left.new ≤ left.old }
+
+        // Where no look asks the run to stop.
+        ensures undisturbed { NeverAsks P.may → IfOk result (λ end. EndsSo H.stands end host.new left.new (run_of H.meaning (tree_of module.now) args host.old left.old undisturbed)) }
+    {
+        run_module(alloc, module.module(), &args, host, stop, left)
+    }
+}
