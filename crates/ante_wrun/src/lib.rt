@@ -5,6 +5,7 @@ mod control;
 mod data;
 mod ends;
 mod instance;
+pub mod laws;
 mod machine;
 mod plain;
 mod run;
