@@ -174,7 +174,8 @@ module _ {W R : Type 0} where
   and_then (InHost f args a n s) go = InHost f args a n s
   and_then Stuck go = Stuck
 
-  -- a branch to a block's label goes on after the block, with the block's results
+  -- A branch to a block's label goes on after the block, with the block's results. The operands that were there before the
+  -- block lie below; typed bodies take none of them.
   abbrev pub of_block : Option ValueKind → (height : ℕ) → Outcome W R → Outcome W R
   of_block kind height (Normal s) = Normal s
   of_block kind height (Branch zero s) = only_if (nat_le (height + arity kind) (length (stack_of s))) (Normal (on_stack s (unwound kind height (stack_of s))))

@@ -119,6 +119,7 @@ fn element(functions: &Functions<'_>, wanted: u32, at: u32) -> Result<u32, TrapK
 }
 
 /// Begins a frame for one of the module's functions.
+#[inline(never)]
 fn enter<'a, H: Host>(
     thread: &mut Thread<'a>,
     alloc: Global,
@@ -152,6 +153,7 @@ fn enter<'a, H: Host>(
 }
 
 /// Calls a function.
+#[inline(never)]
 pub(crate) fn call_function<'a, H: Host>(
     thread: &mut Thread<'a>,
     functions: &Functions<'a>,
@@ -176,6 +178,7 @@ pub(crate) fn call_function<'a, H: Host>(
     }
 }
 
+#[inline(never)]
 fn call_indirect<'a, H: Host>(
     thread: &mut Thread<'a>,
     functions: &Functions<'a>,
@@ -200,6 +203,7 @@ fn call_indirect<'a, H: Host>(
 }
 
 /// Makes the memory grow, where the pages can be paid.
+#[inline(never)]
 fn grow<'a, H: Host>(
     thread: &mut Thread<'a>,
     alloc: Global,
@@ -241,6 +245,7 @@ fn chosen<'a>(test: u32, one: &'a [Instr], two: &'a [Instr]) -> &'a [Instr]
 }
 
 /// Executes an instruction whose step is paid; an `Err` is want of memory.
+#[inline(always)]
 pub(crate) fn act<'a, H: Host>(
     thread: &mut Thread<'a>,
     functions: &Functions<'a>,

@@ -17,6 +17,7 @@ pub(crate) struct Data {
 }
 
 /// An operand as an i32.
+#[inline(always)]
 pub(crate) fn low(value: u64) -> u32
     ensures { result ≡ low value }
 {
@@ -32,6 +33,7 @@ pub(crate) fn trap_of(kind: NumTrap) -> TrapKind
     }
 }
 
+#[inline(always)]
 pub(crate) fn load_width(kind: LoadKind) -> Width
     ensures { result ≡ load_width kind }
 {
@@ -43,6 +45,7 @@ pub(crate) fn load_width(kind: LoadKind) -> Width
     }
 }
 
+#[inline(always)]
 pub(crate) fn store_width(kind: StoreKind) -> Width
     ensures { result ≡ store_width kind }
 {

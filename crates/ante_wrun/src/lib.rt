@@ -6,6 +6,7 @@ mod data;
 mod ends;
 mod given;
 mod instance;
+pub mod laws;
 mod machine;
 mod plain;
 mod run;

@@ -15,6 +15,7 @@ use std::alloc::{AllocError, Global};
 type Trapped = Result<Option<TrapKind>, AllocError>;
 
 /// Puts an answer on top of the operands.
+#[inline(always)]
 fn give(state: &mut Data, alloc: Global, answer: u64) -> Trapped
     ensures effect { IfOk result (λ trap. Does (gives (values_of state.old) state.old.values.stack answer) trap state.old state.new) }
     ensures below { IfOk result (λ trap. state.new.values.below ≡ state.old.values.below) }
@@ -23,6 +24,7 @@ fn give(state: &mut Data, alloc: Global, answer: u64) -> Trapped
     Ok(None)
 }
 
+#[inline(always)]
 fn select(state: &mut Data)
     requires { 2 < length state.old.values.stack }
     ensures effect { Does (done PlainInstr.Select (values_of state.old)) None state.old state.new }
@@ -35,6 +37,7 @@ fn select(state: &mut Data)
     state.values.put(chosen);
 }
 
+#[inline(always)]
 fn load(state: &mut Data, kind: LoadKind, at: MemArg) -> Option<TrapKind>
     requires { 0 < length state.old.values.stack }
     ensures effect { Does (done (PlainInstr.Load kind at) (values_of state.old)) result state.old state.new }
@@ -48,6 +51,7 @@ fn load(state: &mut Data, kind: LoadKind, at: MemArg) -> Option<TrapKind>
     None
 }
 
+#[inline(always)]
 fn store(state: &mut Data, kind: StoreKind, at: MemArg) -> Option<TrapKind>
     requires { 1 < length state.old.values.stack }
     ensures effect { Does (done (PlainInstr.Store kind at) (values_of state.old)) result state.old state.new }
@@ -64,6 +68,7 @@ fn store(state: &mut Data, kind: StoreKind, at: MemArg) -> Option<TrapKind>
     }
 }
 
+#[inline(always)]
 fn binary_32(state: &mut Data, op: Binary) -> Option<TrapKind>
     requires { 1 < length state.old.values.stack }
     ensures effect { Does (done (PlainInstr.I32Binary op) (values_of state.old)) result state.old state.new }
@@ -80,6 +85,7 @@ fn binary_32(state: &mut Data, op: Binary) -> Option<TrapKind>
     }
 }
 
+#[inline(always)]
 fn binary_64(state: &mut Data, op: Binary) -> Option<TrapKind>
     requires { 1 < length state.old.values.stack }
     ensures effect { Does (done (PlainInstr.I64Binary op) (values_of state.old)) result state.old state.new }
@@ -96,6 +102,7 @@ fn binary_64(state: &mut Data, op: Binary) -> Option<TrapKind>
     }
 }
 
+#[inline(always)]
 fn compare_32(state: &mut Data, op: Compare)
     requires { 1 < length state.old.values.stack }
     ensures effect { Does (done (PlainInstr.I32Compare op) (values_of state.old)) None state.old state.new }
@@ -106,6 +113,7 @@ fn compare_32(state: &mut Data, op: Compare)
     state.values.put(u64::from(i32_compare(op, one, two)));
 }
 
+#[inline(always)]
 fn compare_64(state: &mut Data, op: Compare)
     requires { 1 < length state.old.values.stack }
     ensures effect { Does (done (PlainInstr.I64Compare op) (values_of state.old)) None state.old state.new }
@@ -117,6 +125,7 @@ fn compare_64(state: &mut Data, op: Compare)
 }
 
 /// Puts an answer in place of the topmost operand.
+#[inline(always)]
 fn give_for_one(state: &mut Data, answer: u64) -> Trapped
     requires { 0 < length state.old.values.stack }
     ensures effect { IfOk result (λ trap. Does (gives (values_of state.old) (popped state.old.values.stack) answer) trap state.old state.new) }
@@ -127,6 +136,7 @@ fn give_for_one(state: &mut Data, answer: u64) -> Trapped
 }
 
 /// Executes a plain instruction.
+#[inline(always)]
 pub(crate) fn plain(state: &mut Data, alloc: Global, instr: PlainInstr) -> Trapped
     requires operands { operands instr ≤ length state.old.values.stack }
     requires place { finds instr (values_of state.old) ≡ true }

@@ -42,18 +42,25 @@ pub(crate) enum Progress<R> {
     Ended(RunEnd<R>),
 }
 
+#[inline(always)]
 fn round(left: u64) -> u64
     ensures { result ≡ round left }
 {
     if left == 0 { 0 } else { (left - 1) / 1024 + 1 }
 }
 
+#[inline(always)]
 fn is_due(left: u64, last: u64) -> bool
     ensures { result ≡ due left last }
 {
+    // One step on, and not into a lower round: so it mostly is.
+    if left % 1024 > 0 && left < last && last - left == 1 {
+        return false;
+    }
     round(left) < round(last)
 }
 
+#[inline(always)]
 fn take_step(left: &mut u64, last: &mut u64) -> Paid
     ensures steps { Pays left.old last.old result left.new last.new }
     ensures look { look_of result ≡ None }
@@ -67,6 +74,7 @@ fn take_step(left: &mut u64, last: &mut u64) -> Paid
 }
 
 /// Looks at the stop, if a look is due, and pays the step of the next instruction.
+#[inline(always)]
 fn pay<P: Stop>(stop: &mut P, left: &mut u64, last: &mut u64) -> Paid
     ensures look { MayLook P.may (due left.old last.old) stop.old (look_of result) stop.new }
     ensures steps { Pays left.old last.old result left.new last.new }
@@ -81,6 +89,7 @@ fn pay<P: Stop>(stop: &mut P, left: &mut u64, last: &mut u64) -> Paid
 }
 
 /// Calls a function of the host. A 0 is on top of its arguments, as room for the result.
+#[inline(never)]
 fn host_call<'a, H: Host>(
     thread: &mut Thread<'a>,
     host: &mut H,
@@ -122,6 +131,7 @@ fn host_call<'a, H: Host>(
 }
 
 /// Executes the next instruction.
+#[inline(always)]
 fn turn<'a, H: Host, P: Stop>(
     thread: &mut Thread<'a>,
     functions: &Functions<'a>,

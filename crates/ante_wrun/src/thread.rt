@@ -44,6 +44,7 @@ pub(crate) struct Thread<'a> {
 }
 
 /// Goes on after a body that ended, whose frame was taken off.
+#[inline(never)]
 pub(crate) fn resume<'a, H: Host>(thread: &mut Thread<'a>, frame: Frame<'a>)
     requires { Gives frame (length thread.old.state.values.stack) }
     ensures whole { (program : Program) (w : H) (left last : ℕ) (outside : Outside) →
@@ -69,6 +70,7 @@ pub(crate) fn resume<'a, H: Host>(thread: &mut Thread<'a>, frame: Frame<'a>)
 }
 
 /// The next instruction, or none where the last body has ended.
+#[inline(always)]
 pub(crate) fn next_instr<'a, H: Host>(thread: &mut Thread<'a>) -> Option<&'a Instr>
     requires { (program : Program) × (w : H) × (left : ℕ) × (last : ℕ) × (outside : Outside) ×
         NotStuck (going H.meaning program thread.old (state_of thread.old.state w left last outside)) }
@@ -88,6 +90,7 @@ pub(crate) fn next_instr<'a, H: Host>(thread: &mut Thread<'a>) -> Option<&'a Ins
 }
 
 /// Branches to the label of a depth.
+#[inline(never)]
 pub(crate) fn branch<'a, H: Host>(thread: &mut Thread<'a>, depth: u32)
     requires { Reaches thread.old.frames depth (length thread.old.state.values.stack) }
     ensures { (program : Program) (w : H) (left last : ℕ) (outside : Outside) →
@@ -133,6 +136,7 @@ pub(crate) fn branch<'a, H: Host>(thread: &mut Thread<'a>, depth: u32)
 }
 
 /// Returns from the function.
+#[inline(never)]
 pub(crate) fn leave<'a, H: Host>(thread: &mut Thread<'a>)
     requires { Returns thread.old.frames (length thread.old.state.values.stack) }
     ensures { (program : Program) (w : H) (left last : ℕ) (outside : Outside) →

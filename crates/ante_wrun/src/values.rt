@@ -44,6 +44,7 @@ impl ValueStack {
     }
 
     /// How many operands there are.
+    #[inline(always)]
     pub(crate) fn height(&self) -> usize
         ensures { result ≡ length self.now.stack }
     {
@@ -63,6 +64,7 @@ impl ValueStack {
         self.floor - self.base
     }
 
+    #[inline(always)]
     pub(crate) fn push(&mut self, _alloc: Global, value: u64) -> Result<(), AllocError>
         ensures { OnOk result (self.new ≡ record self.old { stack = value ∷ self.old.stack }) }
     {
@@ -71,6 +73,7 @@ impl ValueStack {
     }
 
     /// The topmost operand.
+    #[inline(always)]
     pub(crate) fn top(&self) -> u64
         requires { 0 < length self.now.stack }
         ensures { result ≡ top self.now.stack }
@@ -79,6 +82,7 @@ impl ValueStack {
     }
 
     /// Takes the topmost operand off.
+    #[inline(always)]
     pub(crate) fn pop(&mut self) -> u64
         requires { 0 < length self.old.stack }
         ensures value { result ≡ top self.old.stack }
@@ -91,6 +95,7 @@ impl ValueStack {
     }
 
     /// Puts a value in place of the topmost operand.
+    #[inline(always)]
     pub(crate) fn put(&mut self, value: u64)
         requires { 0 < length self.old.stack }
         ensures { self.new ≡ record self.old { stack = value ∷ popped self.old.stack } }
@@ -99,6 +104,7 @@ impl ValueStack {
         self.items[last] = value;
     }
 
+    #[inline(always)]
     pub(crate) fn local(&self, at: u32) -> u64
         requires { at < length self.now.locals }
         ensures { result ≡ slice_index self.now.locals at }
@@ -106,6 +112,7 @@ impl ValueStack {
         self.items[self.base + at as usize]
     }
 
+    #[inline(always)]
     pub(crate) fn set_local(&mut self, at: u32, value: u64)
         requires { at < length self.old.locals }
         ensures { self.new ≡ record self.old { locals = slice_set self.old.locals at value } }
@@ -114,6 +121,7 @@ impl ValueStack {
     }
 
     /// Leaves the lowest operands.
+    #[inline(always)]
     pub(crate) fn keep(&mut self, height: usize)
         requires { height ≤ length self.old.stack }
         ensures { self.new ≡ record self.old { stack = keep height self.old.stack } }

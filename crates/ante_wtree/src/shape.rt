@@ -20,6 +20,7 @@ pub enum Shape<'a> {
 }
 
 /// The shape of an instruction.
+#[inline(always)]
 pub fn shape_of(instr: &Instr) -> Shape<'_>
     ensures { (rest : Expression) → put instr.now rest ≡ put_shape result rest }
 {
