@@ -49,7 +49,7 @@ fn print_notes(rt: &impl Print, notes: &[Note]) -> io::Result<()> {
 }
 
 impl Table {
-    pub fn new(alloc: Global) -> Table {
+    pub fn new() -> Table {
         Table {
             machine: Machine::new(),
             module: None,
