@@ -1,4 +1,5 @@
-ghost use Rattle.std.specs.Prelude.{◌≡◌, ℕ, ℤ, pos, ◌+◌, ◌-◌, ◌^◌, ◌<◌, ◌≤◌, [], length, Some, None, Err, IfSome, OnSome, IsTrue, OnOk, OnErr, IfOk, IfErr, not, ◌↔◌, negsuc};
+ghost use Rattle.std.specs.Prelude.{◌≡◌, ℕ, ℤ, pos, ◌+◌, ◌-◌, ◌^◌, ◌<◌, ◌≤◌, [], length, Some, None, Err, IfSome, OnSome, T, IsTrue, OnOk, OnErr, IfOk, IfErr, not, ◌↔◌, negsuc};
+ghost use Rattle.std.specs.List.{AllByRecursion};
 ghost use Rattle.std.specs.Option.{option_map};
 ghost use Rattle.std.specs.FinMap.Entries.{find, is_sorted};
 ghost use Rattle.ante_undo.specs.Stack.{opened, with_top, begun, committed, under_top, IsSquashed, without_shelf, IsShelved, IsUnshelved, IsAbove, IsSound};
@@ -163,6 +164,14 @@ impl Usage {
             Some((account, share)) => Some(shown(account, share)),
             None => None,
         }
+    }
+
+    /// Each account with an entry uses something or has a quota, and the accounts rise. The proof is all that this is for.
+    pub fn entries_hold(&self)
+        ensures counted { AllByRecursion (λ e. T (not (is_free e.1.used e.1.quota))) self.now.top }
+        ensures ordered { T (is_sorted ⟦<Name as Ord>⟧.cmp self.now.top) }
+    {
+        let _shares = &self.kept.inner.first;
     }
 
     // What all other accounts use.

@@ -1,2 +1,2 @@
-mod Neighbours
+pub mod Neighbours
 mod LastRow

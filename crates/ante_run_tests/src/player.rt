@@ -2,6 +2,7 @@
 ghost use Rattle.std.specs.Prelude.{◌≡◌, ◌∷◌, [], ◌++◌, drop, if◌then◌else◌, Some, None, OnOk};
 ghost use Rattle.std.proofs.Common.{arith};
 ghost use Rattle.ante_run_tests.specs.Plays.{silent, next, noted, given, ended, shown, number_at, with_number, played, outcome, Answers};
+ghost use Rattle.ante_wmem.specs.Keeping.{always_kept};
 ghost use Rattle.ante_run_tests.specs.declared.player.Note.TheVariants as note;
 ghost use Rattle.ante_wtree.specs.Intrinsics.{type_at};
 
@@ -184,4 +185,6 @@ impl Host for Player {
     ghost lower = { λ host function arguments left less le holds. tt };
 
     ghost falls = { λ host function arguments memory left. Prim.grind arith };
+
+    ghost keeps = { λ host function arguments memory left holds. always_kept (λ w f args n. Unit {0}) (λ w f args n. tt) host left (outcome host function arguments memory left).reply (outcome host function arguments memory left).left };
 }

@@ -9,7 +9,7 @@ use Rattle.ante_sums.specs.Weights.{weight_at}
 use Rattle.ante_sums.proofs.Changed.{weight_flat, weight_changed, weight_within}
 use Rattle.ante_pack.specs.declared.names.Name.{Name}
 use Rattle.ante_types.specs.World.{World, account_bills, permission_bills, link_bills, table_bills, row_bills, bills}
-use Rattle.ante_store.specs.Bills.{bills_at, Rebills}
+use Rattle.ante_store.specs.Bills.{bills_at}
 
 -- a sum over all bills is one over the bills of each map
 pub weighs : (part : Name × ℕ → ℕ) (w : World) → sum_by part (bills w) ≡
@@ -51,7 +51,3 @@ module _ {K V : Type 0} (cmp : K → K → Ordering) (o : IsTotalOrder cmp) (exa
   -- one entry's bills are a part of all
   pub entry_within : (es : List (K × V)) (k : K) → sum_by part (bills_at of_entry k (find cmp k es)) ≤ sum_by part (flat_map of_entry es)
   entry_within es k = omega (arith, weight_flat part of_entry es, weighed k (find cmp k es), weight_within cmp (λ e. sum_by part (of_entry e)) alike k es)
-
--- one change after another
-pub rebills_then : (g c g2 c2 : List (Name × ℕ)) (w w2 w3 : World) → Rebills g c w w2 → Rebills g2 c2 w2 w3 → Rebills (g ++ g2) (c ++ c2) w w3
-rebills_then g c g2 c2 w w2 w3 h k = λ part. omega (arith, h part, k part, sum_by-append part g g2, sum_by-append part c c2)

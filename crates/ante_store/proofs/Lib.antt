@@ -2,3 +2,12 @@ pub mod Later
 pub mod Quotas
 pub mod Rebilled
 pub mod Billed
+pub mod KeyOrders
+pub mod Made
+pub mod ObjectChanges
+pub mod RowChanges
+pub mod QuotaChange
+pub mod Lengths
+pub mod RowsMade
+pub mod Shares
+pub mod Founding

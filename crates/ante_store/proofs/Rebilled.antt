@@ -36,6 +36,14 @@ module _ (o : IsTotalOrder name_order) (exact : (a b : Name) → name_order a b 
       by_test true = used_entry name_order o used quota
       by_test false = refl
 
+  -- a share with the usage that the account has leaves all usage as it was
+  pub used_stands : (k : Name) (quota : ℤ) (es : List (Name × Share)) (a : Name) → used_of (find name_order a (with_share name_order k (used_of (find name_order k es)) quota es)) ≡ used_of (find name_order a es)
+  used_stands k quota es a = used_after k (used_of (find name_order k es)) quota es a ∙ by_key (k.0 == a.0) refl
+    where
+      by_key : (b : Bool) → (k.0 == a.0) ≡ b → cond (k.0 == a.0) (used_of (find name_order k es)) (used_of (find name_order a es)) ≡ used_of (find name_order a es)
+      by_key true p = ap (λ b. cond b (used_of (find name_order k es)) (used_of (find name_order a es))) p ∙ ap (λ x. used_of (find name_order x es)) (exact k a (is_tied k a p))
+      by_key false p = ap (λ b. cond b (used_of (find name_order k es)) (used_of (find name_order a es))) p
+
   abbrev now : Name → List (Name × Share) → ℕ
   now a es = used_of (find name_order a es)
 
@@ -86,7 +94,7 @@ module _ (o : IsTotalOrder name_order) (exact : (a b : Name) → name_order a b 
 pays_all : (bill : Name × ℕ) → paid_by bill.0 bill ≡ bill.1
 pays_all bill = grind arith
 
-take_next : {X : Type 0} (xs : List X) (i : ℕ) (d : X) → i < length xs → take (i + 1) xs ≡ take i xs ++ slice_index_or xs i d ∷ []
+pub take_next : {X : Type 0} (xs : List X) (i : ℕ) (d : X) → i < length xs → take (i + 1) xs ≡ take i xs ++ slice_index_or xs i d ∷ []
 take_next xs i d lt = let next : i + 1 ≡ suc i = omega arith in ap (λ n. take n xs) next ∙ take-suc xs i d lt
 
 -- a top over a stack that differs from the first in its top alone

@@ -1,10 +1,11 @@
 -- Usage and quotas as the store keeps them, against the bills of the world.
-use Rattle.std.specs.Prelude.{◌≡◌, ℕ, ◌+◌, ℤ, negsuc, T, List, [], ◌∷◌, Option, Some, None, if◌then◌else◌}
+use Rattle.std.specs.Prelude.{◌≡◌, ℕ, ◌+◌, ℤ, negsuc, T, nat_le, List, [], ◌∷◌, Option, Some, None, if◌then◌else◌}
 use Rattle.std.specs.List.{sum_by}
 use Rattle.std.specs.Ordering.{int_eq}
 use Rattle.std.specs.FinMap.Entries.{find, is_sorted}
 use Rattle.ante_pack.specs.declared.names.Name.{Name}
 use Rattle.ante_state.specs.Orders.{name_order}
+use Rattle.ante_state.specs.declared.tables.TableRow.{TableRow}
 use Rattle.ante_types.specs.World.{World, bills, paid_by}
 use Rattle.ante_ram.specs.declared.parts.Share.{Share}
 use Rattle.ante_ram.specs.Usage.{used_of, usage_sum}
@@ -36,6 +37,15 @@ pub record IsRebilled (gone come : List (Name × ℕ)) (old new : List (Name × 
 abbrev pub bills_at : {K V : Type 0} → (K × V → List (Name × ℕ)) → K → Option V → List (Name × ℕ)
 bills_at of_entry key None = []
 bills_at of_entry key (Some value) = of_entry (key, value)
+
+-- the bill of a table object that comes with its first row, and of one that goes with its last
+abbrev pub opening_bills : Option TableRow → Name → List (Name × ℕ)
+opening_bills None payer = (payer, 112) ∷ []
+opening_bills (Some table) payer = []
+
+abbrev pub closing_bills : Option TableRow → List (Name × ℕ)
+closing_bills None = []
+closing_bills (Some table) = if nat_le table.count 1 then (table.payer, 112) ∷ [] else []
 
 -- From the one world to the other these bills go, and those come, whatever is summed up of them.
 abbrev pub Rebills : (gone come : List (Name × ℕ)) → World → World → Type 0

@@ -1,5 +1,6 @@
 -- What a change makes of the world, and when it is refused.
-use Rattle.std.specs.Prelude.{ℕ, ◌+◌, ◌-◌, Bool, false, List, Option, Some, None, is_some, nat_le, if◌then◌else◌}
+use Rattle.std.specs.Prelude.{◌≡◌, ℕ, ◌+◌, ◌-◌, ◌^◌, Bool, false, ◌||◌, List, Option, Some, None, is_some, nat_le, nat_lt, if◌then◌else◌}
+use Rattle.std.specs.Option.{option_or}
 use Rattle.std.specs.Ordering.{nat_cmp}
 use Rattle.std.specs.FinMap.Entries.{find}
 use Rattle.ante_undo.specs.Entries.{changed}
@@ -9,7 +10,7 @@ use Rattle.ante_state.specs.Orders.{name_order, table_order, row_order, level_or
 use Rattle.ante_state.specs.declared.tables.RowKey.{RowKey}
 use Rattle.ante_state.specs.declared.tables.TableRow.{TableRow}
 use Rattle.ante_state.specs.declared.tables.PrimaryRow.{PrimaryRow}
-use Rattle.ante_types.specs.World.{World}
+use Rattle.ante_types.specs.World.{World, used_by_all}
 use Rattle.ante_store.specs.declared.change.Change.{Change}
 use Rattle.ante_store.specs.declared.change.Change.TheVariants as change
 use Rattle.ante_store.specs.declared.change.WriteError.{WriteError}
@@ -85,3 +86,19 @@ most_rows = 4294967295
 abbrev pub is_full : Change → World → Bool
 is_full (change.StoreRow table primary payer bytes) w = nat_le most_rows (count_of (find table_order table w.tables))
 is_full _ w = false
+
+-- all accounts together would use too much
+abbrev pub is_too_much : Change → World → Bool
+is_too_much c w = nat_lt (2 ^ 62) (used_by_all (after c w))
+
+-- why the change can't be made, if there is a reason: where its row stands comes first
+abbrev pub refusal : Change → World → Option WriteError
+refusal c w = option_or (misplaced c w) (if is_full c w || is_too_much c w then Some error.RamTotal else None)
+
+-- an error is want of memory, or says why the change can't be made
+abbrev pub IsCause : Change → World → WriteError → Type 0
+IsCause c w error.OutOfMemory = Unit {0}
+IsCause c w error.WriteRefused = ⊥
+IsCause c w error.RamTotal = refusal c w ≡ Some error.RamTotal
+IsCause c w error.Missing = refusal c w ≡ Some error.Missing
+IsCause c w error.Exists = refusal c w ≡ Some error.Exists

@@ -6,16 +6,20 @@ ghost use Rattle.ante_state.specs.Orders.{name_order};
 ghost use Rattle.ante_ram.specs.Usage.{used_of, quota_of, usage_sum, with_share};
 ghost use Rattle.ante_ram.specs.declared.usage.RamFault.TheVariants.{OutOfMemory, RamTotal};
 ghost use Rattle.ante_store.specs.Bills.{paid, sizes, IsRebilled};
+ghost use Rattle.ante_store.specs.Worlds.{IsBilled};
+ghost use Rattle.ante_store.specs.Applied.{IsUnpaid};
 
-use crate::laws::names_are_ordered;
+use crate::bills::{Bill, Bills};
+use crate::change::WriteError;
+use crate::parts::Parts;
 use ante_pack::Name;
 use ante_ram::{RamFault, Usage};
 use std::alloc::Global;
 
 /// What all accounts together may use.
-const MOST: u64 = 4_611_686_018_427_387_904;
+const MOST: u128 = 4_611_686_018_427_387_904;
 
-fn lower(alloc: Global, usage: &mut Usage, payer: Name, size: u64) -> Result<(), RamFault>
+fn lower(alloc: Global, usage: &mut Usage, payer: Name, size: u128) -> Result<(), RamFault>
     requires above { IsAbove 1 usage.old }
     requires small { usage_sum usage.old.top ≤ 2 ^ 62 }
     requires within { size ≤ used_of (find name_order payer usage.old.top) }
@@ -27,7 +31,7 @@ fn lower(alloc: Global, usage: &mut Usage, payer: Name, size: u64) -> Result<(),
     usage.add(alloc, payer, -(size as i64))
 }
 
-fn raise(alloc: Global, usage: &mut Usage, payer: Name, size: u64) -> Result<(), RamFault>
+fn raise(alloc: Global, usage: &mut Usage, payer: Name, size: u128) -> Result<(), RamFault>
     requires above { IsAbove 1 usage.old }
     ensures ok { OnOk result (usage.new ≡ with_top (with_share name_order payer (used_of (find name_order payer usage.old.top) + size) (quota_of (find name_order payer usage.old.top)) usage.old.top) usage.old) }
     ensures total { (result ≡ Err RamTotal) ↔ (2 ^ 62 < usage_sum usage.old.top + size) }
@@ -41,11 +45,7 @@ fn raise(alloc: Global, usage: &mut Usage, payer: Name, size: u64) -> Result<(),
 }
 
 /// Takes bills out of the usage, which holds them.
-pub(crate) fn lower_all(
-    alloc: Global,
-    usage: &mut Usage,
-    bills: &[(Name, u64)],
-) -> Result<(), RamFault>
+pub(crate) fn lower_all(alloc: Global, usage: &mut Usage, bills: &[Bill]) -> Result<(), RamFault>
     requires above { IsAbove 1 usage.old }
     requires sorted { IsTrue (is_sorted name_order usage.old.top) }
     requires small { usage_sum usage.old.top ≤ 2 ^ 62 }
@@ -54,7 +54,6 @@ pub(crate) fn lower_all(
     ensures top { usage.new ≡ with_top usage.new.top usage.old }
     ensures fault { IfErr result (λ fault. fault ≡ OutOfMemory) }
 {
-    names_are_ordered();
     for (payer, size) in bills {
         lower(alloc, usage, *payer, *size)?;
     }
@@ -62,11 +61,7 @@ pub(crate) fn lower_all(
 }
 
 /// Adds bills to the usage.
-pub(crate) fn raise_all(
-    alloc: Global,
-    usage: &mut Usage,
-    bills: &[(Name, u64)],
-) -> Result<(), RamFault>
+pub(crate) fn raise_all(alloc: Global, usage: &mut Usage, bills: &[Bill]) -> Result<(), RamFault>
     requires above { IsAbove 1 usage.old }
     requires sorted { IsTrue (is_sorted name_order usage.old.top) }
     requires small { usage_sum usage.old.top ≤ 2 ^ 62 }
@@ -75,9 +70,45 @@ pub(crate) fn raise_all(
     ensures total { result ≡ Err RamTotal → 2 ^ 62 < usage_sum usage.old.top + sizes bills.now }
     ensures small { OnOk result (usage_sum usage.old.top + sizes bills.now ≤ 2 ^ 62) }
 {
-    names_are_ordered();
     for (payer, size) in bills {
         raise(alloc, usage, *payer, *size)?;
     }
     Ok(())
+}
+
+/// Takes bills out of the usage, which holds them, and adds others.
+fn exchange(alloc: Global, usage: &mut Usage, gone: &Bills, come: &Bills) -> Result<(), RamFault>
+    requires above { IsAbove 1 usage.old }
+    requires sorted { IsTrue (is_sorted name_order usage.old.top) }
+    requires small { usage_sum usage.old.top ≤ 2 ^ 62 }
+    requires within { (account : Name) → paid account gone.now ≤ used_of (find name_order account usage.old.top) }
+    ensures ok { OnOk result (IsRebilled gone.now come.now usage.old.top usage.new.top) }
+    ensures top { usage.new ≡ with_top usage.new.top usage.old }
+    ensures total { result ≡ Err RamTotal → 2 ^ 62 + sizes gone.now < usage_sum usage.old.top + sizes come.now }
+    ensures small { OnOk result (usage_sum usage.new.top ≤ 2 ^ 62) }
+{
+    lower_all(alloc, usage, gone.as_slice())?;
+    raise_all(alloc, usage, come.as_slice())
+}
+
+/// Takes bills out of what accounts use, and adds others. Nothing else changes.
+pub(crate) fn rebill(
+    alloc: Global,
+    parts: &mut Parts,
+    gone: &Bills,
+    come: &Bills,
+) -> Result<(), WriteError>
+    requires above { IsAbove 1 parts.old }
+    requires billed { IsBilled parts.old.top }
+    requires within { (account : Name) → paid account gone.now ≤ used_of (find name_order account parts.old.top.1) }
+    ensures ok { OnOk result (IsRebilled gone.now come.now parts.old.top.1 parts.new.top.1) }
+    ensures same { parts.new ≡ with_top (parts.old.top.0, parts.new.top.1) parts.old }
+    ensures small { OnOk result (usage_sum parts.new.top.1 ≤ 2 ^ 62) }
+    ensures err { IfErr result (IsUnpaid gone.now come.now parts.old.top.1) }
+{
+    match exchange(alloc, &mut parts.second, gone, come) {
+        Ok(()) => Ok(()),
+        Err(RamFault::RamTotal) => Err(WriteError::RamTotal),
+        Err(RamFault::OutOfMemory) => Err(WriteError::OutOfMemory),
+    }
 }

@@ -1,5 +1,9 @@
+ghost use Rattle.std.specs.Prelude.{◌≡◌};
+ghost use Rattle.ante_store.specs.declared.change.WriteError.TheVariants.{OutOfMemory};
+
 use ante_pack::{Bytes, Digest, Level, Name, TableKey};
 use ante_state::{AccountRow, PermissionRow};
+use std::alloc::AllocError;
 
 /// One change of the chain's state.
 #[derive(Debug, Drop)]
@@ -65,4 +69,12 @@ pub enum WriteError {
     Missing,
     /// The row is there already.
     Exists,
+}
+
+impl From<AllocError> for WriteError {
+    ghost from_gives = { λ _ e. e ≡ OutOfMemory };
+
+    fn from(_: AllocError) -> WriteError {
+        WriteError::OutOfMemory
+    }
 }

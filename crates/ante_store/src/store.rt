@@ -1,19 +1,23 @@
-ghost use Rattle.std.specs.Prelude.{◌≡◌, ◌<◌, length, true};
+ghost use Rattle.std.specs.Prelude.{◌≡◌, ◌<◌, length, true, None, OnOk, OnErr, IfErr};
 ghost use Rattle.std.specs.FinMap.Entries.{find};
+ghost use Rattle.ante_undo.specs.Stack.{opened, with_top, IsAbove};
 ghost use Rattle.ante_pack.specs.declared.names.Name.{Name};
 ghost use Rattle.ante_state.specs.Orders.{name_order};
 ghost use Rattle.ante_types.specs.World.{used};
 ghost use Rattle.ante_ram.specs.Usage.{used_of};
 ghost use Rattle.ante_store.specs.Bills.{quotas_of};
+ghost use Rattle.ante_store.specs.Changes.{after, refusal, IsCause};
 ghost use Rattle.ante_store.specs.Worlds.{world_of, IsBilled};
 
+use crate::apply::apply_whole;
+use crate::change::{Change, WriteError};
 use crate::parts::Parts;
 use ante_objects::Objects;
 use ante_ram::Usage;
 use ante_rows::Rows;
 use ante_sessions::{Kept, Sessions, Shape};
 use std::alloc::{AllocError, Global};
-use std::marker::Model;
+use std::marker::{Model, PhantomData};
 
 /// The world as contracts name it. None is ever made.
 #[derive(Drop)]
@@ -85,6 +89,33 @@ impl Store {
         ensures quotas { quotas_of result.now.top ≡ self.now.top.quotas }
     {
         &self.kept.inner.second
+    }
+
+    /// A store of these parts alone, at revision 1.
+    pub(crate) fn of_parts(parts: Parts) -> Store
+        requires base { parts ≡ opened parts.top 0 }
+        requires billed { IsBilled parts.top }
+        ensures { result ≡ opened (world_of parts.top) 1 }
+    {
+        Store {
+            kept: Kept {
+                inner: parts,
+                shape: PhantomData,
+            },
+        }
+    }
+
+    /// Makes the change in the newest session, or leaves all as it was.
+    pub(crate) fn change(&mut self, alloc: Global, change: Change) -> Result<(), WriteError>
+        requires session { 0 < length self.old.under }
+        requires above { IsAbove 1 self.old }
+        ensures granted { OnOk result (refusal change self.old.top ≡ None) }
+        ensures ok { OnOk result (self.new ≡ with_top (after change self.old.top) self.old) }
+        ensures cause { IfErr result (IsCause change self.old.top) }
+        ensures err { OnErr result (self.new ≡ self.old) }
+    {
+        let kept = &mut self.kept;
+        apply_whole(alloc, &mut kept.inner, change)
     }
 
     // That each open session has a revision of its own above the first one, which is 1 at least.

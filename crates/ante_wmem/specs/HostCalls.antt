@@ -26,6 +26,14 @@ abbrev pub StaysAllowed : {W : Type 0} → (W → ℕ → List ℕ → ℕ → T
 StaysAllowed allowed old before new after =
     (function : ℕ) (arguments : List ℕ) (less : ℕ) → less < after → allowed old function arguments before → allowed new function arguments less
 
+-- the same of a host that a reply leaves, where the run goes on
+abbrev pub Keeps : {W R : Type 0} → (W → ℕ → List ℕ → ℕ → Type 0) → (old : W) → (before : ℕ) → Reply W R → (after : ℕ) → Type 0
+Keeps allowed old before (value n host memory) after = StaysAllowed allowed old before host after
+Keeps allowed old before (nothing host memory) after = StaysAllowed allowed old before host after
+Keeps allowed old before (exit host memory) after = Unit {0}
+Keeps allowed old before (refused r) after = Unit {0}
+Keeps allowed old before step_limit after = Unit {0}
+
 -- The code answers the outcome or want of memory. After a refusal, StepLimit and want of memory `stands` says what is left of the host.
 abbrev pub IsAnswer : {W R : Type 0} → Outcome W R → (stands : HostAnswer R → W → Type 0) → HostAnswer R → W → LinearMemory → ℕ → Type 0
 IsAnswer outcome stands (Value n) host memory left = outcome ≡ record { reply = value n host memory; left = left }

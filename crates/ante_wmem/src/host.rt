@@ -1,7 +1,7 @@
 //! What the interpreter asks of its host.
 ghost use Rattle.std.specs.Prelude.{◌≡◌, ℕ, ◌≤◌, List};
 ghost use Rattle.ante_wmem.specs.Linear.{LinearMemory};
-ghost use Rattle.ante_wmem.specs.HostCalls.{HostMeaning, StaysAllowed, IsAnswer};
+ghost use Rattle.ante_wmem.specs.HostCalls.{HostMeaning, StaysAllowed, Keeps, IsAnswer};
 ghost use Rattle.ante_wmem.specs.declared.host.HostAnswer.{HostAnswer};
 
 use crate::Memory;
@@ -62,4 +62,9 @@ pub trait Host {
     // No call raises the steps left.
     ghost falls: { (host : Self) (function : ℕ) (arguments : List ℕ) (memory : LinearMemory) (left : ℕ) →
         (meaning host function arguments memory left).left ≤ left };
+
+    // What may be called before a call may be called after its reply, with fewer steps left.
+    ghost keeps: { (host : Self) (function : ℕ) (arguments : List ℕ) (memory : LinearMemory) (left : ℕ) →
+        allowed host function arguments left →
+        let outcome = meaning host function arguments memory left in Keeps allowed host left outcome.reply outcome.left };
 }

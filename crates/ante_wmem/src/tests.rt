@@ -1,7 +1,8 @@
 //! A small host, which shows that the trait can be met, and what the calls answer with ample memory.
 ghost use Rattle.std.specs.Prelude.{◌≡◌, ◌+◌, ◌-◌, ◌^◌, ◌<◌, ◌==◌, if◌then◌else◌};
-ghost use Rattle.std.proofs.Common.{arith};
+ghost use Rattle.std.proofs.Common.{arith, refl};
 ghost use Rattle.ante_wmem.specs.HostCalls.{value, nothing, refused, step_limit};
+ghost use Rattle.ante_wmem.specs.Keeping.{counted};
 ghost use Rattle.ante_wmem.specs.Linear.{is_inside, overwritten, low_bytes};
 
 use crate::{Host, HostAnswer, HostFn, Memory, OutOfBounds, Width};
@@ -50,6 +51,9 @@ impl Host for Counter {
     ghost lower = { λ host function arguments left less le holds. Prim.omega arith };
 
     ghost falls = { λ host function arguments memory left. Prim.grind arith };
+
+    ghost keeps = { λ host function arguments memory left holds. counted (left == 0) (function == 0) (is_inside memory.bytes 0 1) function left host
+        (record host { calls = host.calls + 1 }) (λ h. h.calls) memory (record memory { bytes = overwritten memory.bytes 0 (low_bytes 1 host.calls) }) refl holds };
 }
 
 const NUMBER: u64 = 0x0123_4567_89AB_CDEF;

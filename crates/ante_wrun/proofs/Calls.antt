@@ -1,8 +1,8 @@
 -- Calls, traps and growth on the machine's frames.
-use Rattle.std.proofs.Common.{◌≡◌, ℕ, zero, suc, ◌<◌, ◌≤◌, Bool, true, false, List, [], ◌∷◌, ◌++◌, length, take, drop, reverse, replicate, map, Option, Some, Result, Ok, Err, IfOk, refl, sym, ap, ◌∙◌, arith}
+use Rattle.std.proofs.Common.{◌≡◌, ℕ, zero, suc, ◌<◌, ◌≤◌, Bool, true, false, List, [], ◌∷◌, ◌++◌, length, take, drop, reverse, replicate, map, Option, None, Some, Result, Ok, Err, IfOk, refl, sym, ap, ◌∙◌, arith}
 use Rattle.std.specs.Prelude.{slice_get, nat_lt, nat_le, if◌then◌else◌}
 use Rattle.std.specs.Option.{option_map}
-use Rattle.std.proofs.lemmas.Bool.{lt-ltb, ltb-true, leb-true}
+use Rattle.std.proofs.lemmas.Bool.{ltb-true, leb-true}
 use Rattle.std.proofs.lemmas.List.{reverse-reverse}
 use Rattle.std.proofs.Math.Seq.{take-append_seam, drop-append_seam}
 use denote.Bor.{Bor}
@@ -14,7 +14,6 @@ use Rattle.ante_wtree.specs.declared.modules.FuncType.{FuncType}
 use Rattle.ante_wtree.specs.Expressions.{Expression, expression_of}
 use Rattle.ante_wrun.specs.declared.ends.RunEnd.{RunEnd}
 use Rattle.ante_wrun.specs.declared.ends.RunEnd.TheVariants as end
-use Rattle.ante_wrun.specs.declared.ends.TrapKind.TheVariants as trap
 use Rattle.ante_wrun.specs.declared.data.Data.{Data}
 use Rattle.ante_wrun.specs.declared.thread.Frame.{Frame}
 use Rattle.ante_wrun.specs.declared.thread.Frame.TheVariants as frame
@@ -22,11 +21,11 @@ use Rattle.ante_wrun.specs.declared.control.Function.{Function}
 use Rattle.ante_wrun.specs.declared.control.Next.{Next as After}
 use Rattle.ante_wrun.specs.declared.control.Next.TheVariants as next
 use Rattle.ante_wrun.specs.declared.ends.TrapKind.{TrapKind}
-use Rattle.ante_wrun.specs.Effects.{Effect, Next, Traps, popped}
-use Rattle.ante_wrun.specs.Meaning.{Outside, Program, FunctionInstance, State, Outcome, Ended, and_then, of_function, with_operands, chosen, of_block, call_own, on_stack, stack_of, result_of, arguments, pay_pages, grow_if, grow, grown_by, does, call}
+use Rattle.ante_wrun.specs.Effects.{Effect, Next, Traps, NoRule, popped}
+use Rattle.ante_wrun.specs.Meaning.{Outside, Program, FunctionInstance, State, Outcome, Ended, and_then, of_function, chosen, of_block, on_stack, result_of, arguments, pay_pages, grow_if, grow, grown_by, does, call}
 use Rattle.ante_wrun.specs.Frames.{FrameValues, InCall, unwind}
-use Rattle.ante_wrun.specs.Machine.{opens, under, Does}
-use Rattle.ante_wrun.specs.Control.{instance_of, own_at, Stops, NotHostCall, GivenAt}
+use Rattle.ante_wrun.specs.Machine.{opens, under, values_of, Does}
+use Rattle.ante_wrun.specs.Control.{instance_of, own_at, Takes, Stops, NotHostCall, GivenAt}
 use Rattle.ante_wrun.proofs.Bodies.{here, goes}
 
 pub not_lt : (m n : ℕ) → n ≤ m → nat_lt m n ≡ false
@@ -40,6 +39,12 @@ found all at o e = same all at ∙ ap (option_map instance_of) (sym e)
     same [] at = refl
     same (f ∷ fs) zero = refl
     same (f ∷ fs) (suc at) = same fs at
+
+-- a number with a function is within the list
+pub within : (all : List Function) (at count : ℕ) → Takes (slice_get (map instance_of all) at) count → at < length all
+within [] at count h = absurd h
+within (f ∷ fs) zero count h = omega arith
+within (f ∷ fs) (suc at) count h = let lt = within fs at count h in omega (arith, lt)
 
 pub not_host : (program : Program) (at : ℕ) (n : After) → NotHostCall n → GivenAt program at n
 not_host program at next.Go h = tt
@@ -71,12 +76,6 @@ module _ {W R : Type 0} (host : HostMeaning W R) (program : Program) where
   pub calls : (free f : ℕ) (s : State W) (o : Option FunctionInstance) → slice_get program.functions f ≡ o → call host program free f s ≡ of_function host (own_at host program free) o s
   calls free f s o e = call_is free f s ∙ ap (λ x. of_function host (own_at host program free) x s) e
 
-  pub too_few : (free m : ℕ) (kind : FuncType) (locals : ℕ) (body : Expression) (s : State W) → free ≡ suc m → length (stack_of s) < length kind.params →
-      own_at host program free kind locals body s ≡ Ended (end.Trap trap.Unreachable) s
-  too_few free m kind locals body s e lt =
-      ap (λ k. own_at host program k kind locals body s) e
-      ∙ ap (λ b. with_operands b (call_own (does program (call host program m)) kind locals body) s) (lt-ltb (length (stack_of s)) (length kind.params) lt)
-
 module _ {W R : Type 0} (host : HostMeaning W R) (program : Program) (w : W) (left last : ℕ) (outside : Outside) where
   caller : (below locals operands : List ℕ) (frames : List Frame) (kind : Option ValueKind) (free : ℕ) (rest : Expression) (m : ℕ) (o : Outcome W R) →
       let all = below ++ (locals ++ operands) in
@@ -93,12 +92,12 @@ module _ {W R : Type 0} (host : HostMeaning W R) (program : Program) (w : W) (le
       ∙ ap (λ x. unwind host program m (InCall kind (take (length locals) (drop (length below) all)) (reverse (drop (length locals) (drop (length below) all))) free rest ∷ opens x frames) o) c
 
   pub enters : (free m : ℕ) (frames fs : List Frame) (d : Data) (rest body : Bor (List Instr)) (kind : FuncType) (zeros : ℕ) (v : FrameValues) →
-      free ≡ suc m → length kind.params ≤ length d.values.stack →
+      free ≡ suc m →
       fs ≡ frame.Call (result_of kind.results) (length d.values.below) (length d.values.locals) free rest ∷ frames →
       v ≡ record { below = d.values.below ++ (d.values.locals ++ reverse (drop (length kind.params) d.values.stack)); locals = arguments (length kind.params) d.values.stack ++ replicate zeros 0; stack = [] } →
       under host program free d.values.below frames (and_then (own_at host program free kind zeros (expression_of body.now) (here host program w left last outside d)) (does program (call host program free) (expression_of rest.now)))
       ≡ goes host program w left last outside m fs body (record d { values = v })
-  enters free m frames fs d rest body kind zeros v e le f g =
+  enters free m frames fs d rest body kind zeros v e f g =
       let s = here host program w left last outside d in
       let go = does program (call host program free) (expression_of rest.now) in
       let operands = reverse (drop (length kind.params) d.values.stack) in
@@ -106,7 +105,6 @@ module _ {W R : Type 0} (host : HostMeaning W R) (program : Program) (w : W) (le
       let d' : Data = record d { values = v' } in
       let o = does program (call host program m) (expression_of body.now) (here host program w left last outside d') in
       ap (λ k. under host program free d.values.below frames (and_then (own_at host program k kind zeros (expression_of body.now) s) go)) e
-      ∙ ap (λ b. under host program free d.values.below frames (and_then (with_operands b (call_own (does program (call host program m)) kind zeros (expression_of body.now)) s) go)) (not_lt (length d.values.stack) (length kind.params) le)
       ∙ ap (λ x. unwind host program m (InCall (result_of kind.results) d.values.locals x free (expression_of rest.now) ∷ opens d.values.below frames) o) (sym (reverse-reverse (drop (length kind.params) d.values.stack)))
       ∙ caller d.values.below d.values.locals operands frames (result_of kind.results) free (expression_of rest.now) m o
       ∙ ap (λ x. goes host program w left last outside m x body d') (sym f)
@@ -120,8 +118,14 @@ module _ {W : Type 0} (R : Type 0) where
 
 -- ---- plain instructions and conditions
 
+pub goes_on : (e : Effect) (trap : Option TrapKind) (old new : Data) → Does e trap old new → trap ≡ None → e ≡ Next (values_of new)
+goes_on (Next v) trap old new d h = ap Next (sym d.1)
+goes_on (Traps k) trap old new d h = cc
+goes_on NoRule trap old new d h = absurd d
+
 pub traps : (e : Effect) (trap : Option TrapKind) (kind : TrapKind) (old new : Data) → Does e trap old new → trap ≡ Some kind → e ≡ Traps kind
 traps (Next v) trap kind old new d h = cc
+traps NoRule trap kind old new d h = absurd d
 traps (Traps k) trap kind old new d h = ap Traps (some_is k kind (sym d.0 ∙ h))
   where
     some_is : (x y : TrapKind) → Some x ≡ Some y → x ≡ y

@@ -1,14 +1,14 @@
 -- No code raises the steps left, and a branch has lowered them: so a loop's turns are never too few.
-use Rattle.std.proofs.Common.{◌≡◌, ℕ, zero, suc, ◌<◌, ◌≤◌, Bool, true, false, List, length, drop, Option, None, Some, Result, Ok, Err, refl, arith}
-use Rattle.std.specs.Prelude.{◌==◌, not, nat_lt, nat_le, slice_get}
+use Rattle.std.proofs.Common.{◌≡◌, ℕ, zero, suc, ◌+◌, ◌<◌, ◌≤◌, Bool, true, false, List, [], ◌∷◌, length, drop, Option, None, Some, Result, Ok, Err, refl, ap, arith}
+use Rattle.std.specs.Prelude.{◌==◌, not, nat_le, slice_get}
 use Rattle.ante_wmem.specs.Linear.{LinearMemory, may_grow}
 use Rattle.ante_wmem.specs.HostCalls.{Reply, value, nothing, exit, refused, step_limit, HostMeaning}
 use Rattle.ante_wtree.specs.declared.instructions.ValueKind.{ValueKind}
 use Rattle.ante_wtree.specs.declared.modules.FuncType.{FuncType}
 use Rattle.ante_wtree.specs.Expressions.{Expression, Over, Plain, Block, Loop, If, Br, BrIf, BrTable, Return, Call, CallIndirect, MemoryGrow}
 use Rattle.ante_wrun.specs.declared.ends.TrapKind.{TrapKind}
-use Rattle.ante_wrun.specs.Effects.{Effect, Next, Traps, effect, top, popped, low}
-use Rattle.ante_wrun.specs.Meaning.{FunctionInstance, Own, Given, Missing, Program, State, Outcome, Normal, Branch, Returned, Ended, Lacks, InHost, stack_of, on_stack, with_values, keep, result_of, grown_by, entered, arguments, all_fit, after_look, after_item, due, supplied, pay, seen, step, starts, and_then, of_block, of_loop, of_call, of_effect, turns, chosen, jump_unless, target, pay_pages, grow_if, grow, element, acts, does, with_operands, of_reply, host_supplied, call_host, of_function, no_frame, call_own, in_frame, call}
+use Rattle.ante_wrun.specs.Effects.{Effect, Next, Traps, NoRule, effect, low}
+use Rattle.ante_wrun.specs.Meaning.{FunctionInstance, Own, Given, Missing, Program, State, Outcome, Normal, Branch, Returned, Ended, Lacks, InHost, Stuck, stack_of, on_stack, with_values, keep, unwound, arity, returned, only_if, back, taking, masked, gives_none, result_of, grown_by, entered, arguments, after_look, after_item, after_call, due, supplied, pay, seen, step, starts, and_then, of_block, of_loop, of_call, of_effect, turns, chosen, jump_unless, target, pay_pages, grow_if, grow, element, acts, does, of_reply, host_supplied, call_host, of_function, no_frame, call_own, call}
 
 module _ {W R : Type 0} where
   abbrev pub Lowers : ℕ → Outcome W R → Type 0
@@ -18,6 +18,7 @@ module _ {W R : Type 0} where
   Lowers n (Ended e s) = Unit {0}
   Lowers n (Lacks s) = Unit {0}
   Lowers n (InHost f args a m s) = Unit {0}
+  Lowers n Stuck = Unit {0}
 
   pub lowers_more : (m n : ℕ) → m ≤ n → (o : Outcome W R) → Lowers m o → Lowers n o
   lowers_more m n le (Normal s) h = omega arith
@@ -26,6 +27,7 @@ module _ {W R : Type 0} where
   lowers_more m n le (Ended e s) h = tt
   lowers_more m n le (Lacks s) h = tt
   lowers_more m n le (InHost f args a k s) h = tt
+  lowers_more m n le Stuck h = tt
 
   abbrev pub AllLower : (State W → Outcome W R) → Type 0
   AllLower f = (s : State W) → Lowers s.left (f s)
@@ -70,6 +72,10 @@ module _ {W R : Type 0} where
 
   -- ---- what follows an outcome
 
+  only_if_lowers : (b : Bool) (n : ℕ) (o : Outcome W R) → Lowers n o → Lowers n (only_if b o)
+  only_if_lowers true n o h = h
+  only_if_lowers false n o h = tt
+
   and_then_lowers : (n : ℕ) (o : Outcome W R) (go : State W → Outcome W R) → Lowers n o → ((t : State W) → t.left ≤ n → Lowers n (go t)) → Lowers n (and_then o go)
   and_then_lowers n (Normal s) go h g = g s h
   and_then_lowers n (Branch k s) go h g = h
@@ -77,36 +83,53 @@ module _ {W R : Type 0} where
   and_then_lowers n (Ended e s) go h g = tt
   and_then_lowers n (Lacks s) go h g = tt
   and_then_lowers n (InHost f args a k s) go h g = tt
+  and_then_lowers n Stuck go h g = tt
 
   of_block_lowers : (kind : Option ValueKind) (height n : ℕ) (o : Outcome W R) → Lowers n o → Lowers n (of_block kind height o)
   of_block_lowers kind height n (Normal s) h = h
-  of_block_lowers kind height n (Branch zero s) h = omega arith
+  of_block_lowers kind height n (Branch zero s) h =
+      let le : s.left ≤ n = omega arith in only_if_lowers (nat_le (height + arity kind) (length (stack_of s))) n (Normal (on_stack s (unwound kind height (stack_of s)))) le
   of_block_lowers kind height n (Branch (suc k) s) h = h
   of_block_lowers kind height n (Returned s) h = h
   of_block_lowers kind height n (Ended e s) h = tt
   of_block_lowers kind height n (Lacks s) h = tt
   of_block_lowers kind height n (InHost f args a k s) h = tt
+  of_block_lowers kind height n Stuck h = tt
 
   of_loop_lowers : (height n : ℕ) (o : Outcome W R) (go : State W → Outcome W R) → Lowers n o → ((t : State W) → t.left ≤ n → Lowers n (go t)) → Lowers n (of_loop height o go)
   of_loop_lowers height n (Normal s) go h g = h
-  of_loop_lowers height n (Branch zero s) go h g = g (on_stack s (keep height (stack_of s))) (omega arith)
+  of_loop_lowers height n (Branch zero s) go h g =
+      let t = on_stack s (keep height (stack_of s)) in only_if_lowers (nat_le height (length (stack_of s))) n (go t) (g t (omega arith))
   of_loop_lowers height n (Branch (suc k) s) go h g = h
   of_loop_lowers height n (Returned s) go h g = h
   of_loop_lowers height n (Ended e s) go h g = tt
   of_loop_lowers height n (Lacks s) go h g = tt
   of_loop_lowers height n (InHost f args a k s) go h g = tt
+  of_loop_lowers height n Stuck go h g = tt
 
+module _ (W R : Type 0) where
+  back_lowers : (kind : Option ValueKind) (locals stack : List ℕ) (n : ℕ) (s : State W) → s.left ≤ n → Lowers {W = W} {R = R} n (back kind locals stack s)
+  back_lowers kind locals stack n s le = only_if_lowers (nat_le (arity kind) (length (stack_of s))) n (Normal (returned kind locals stack s)) le
+
+module _ {W R : Type 0} where
   of_call_lowers : (kind : Option ValueKind) (locals stack : List ℕ) (n : ℕ) (o : Outcome W R) → Lowers n o → Lowers n (of_call kind locals stack o)
-  of_call_lowers kind locals stack n (Normal s) h = h
-  of_call_lowers kind locals stack n (Branch k s) h = omega arith
-  of_call_lowers kind locals stack n (Returned s) h = h
+  of_call_lowers kind locals stack n (Normal s) h = back_lowers W R kind locals stack n s h
+  of_call_lowers kind locals stack n (Branch zero s) h = back_lowers W R kind locals stack n s (omega arith)
+  of_call_lowers kind locals stack n (Branch (suc k) s) h = tt
+  of_call_lowers kind locals stack n (Returned s) h = back_lowers W R kind locals stack n s h
   of_call_lowers kind locals stack n (Ended e s) h = tt
   of_call_lowers kind locals stack n (Lacks s) h = tt
   of_call_lowers kind locals stack n (InHost f args a k s) h = tt
+  of_call_lowers kind locals stack n Stuck h = tt
 
   of_effect_lowers : (e : Effect) (s : State W) (n : ℕ) (go : State W → Outcome W R) → s.left ≤ n → ((t : State W) → t.left ≤ n → Lowers n (go t)) → Lowers n (of_effect e s go)
   of_effect_lowers (Next v) s n go le g = g (with_values s v) le
   of_effect_lowers (Traps kind) s n go le g = tt
+  of_effect_lowers NoRule s n go le g = tt
+
+  taking_lowers : (stack : List ℕ) (s : State W) (n : ℕ) (go : ℕ → State W → Outcome W R) → s.left ≤ n → ((k : ℕ) (t : State W) → t.left ≤ n → Lowers n (go k t)) → Lowers n (taking stack s go)
+  taking_lowers [] s n go le g = tt
+  taking_lowers (k ∷ below) s n go le g = g k (on_stack s below) le
 
   turns_lowers : (m : ℕ) (body : State W → Outcome W R) (height : ℕ) → AllLower body → AllLower (turns m body height)
   turns_lowers zero body height h s = tt
@@ -117,14 +140,15 @@ module _ {W R : Type 0} where
   chosen_lowers true one two g h s = h s
   chosen_lowers false one two g h s = g s
 
-  target_lowers : (r : Result ℕ TrapKind) (calls : ℕ → State W → Outcome W R) → ((f : ℕ) → AllLower (calls f)) → AllLower (target r calls)
-  target_lowers (Ok f) calls c s = c f s
-  target_lowers (Err kind) calls c s = tt
+  target_lowers : (r : Option (Result ℕ TrapKind)) (calls : ℕ → State W → Outcome W R) → ((f : ℕ) → AllLower (calls f)) → AllLower (target r calls)
+  target_lowers (Some (Ok f)) calls c s = c f s
+  target_lowers (Some (Err kind)) calls c s = tt
+  target_lowers None calls c s = tt
 
 module _ (W R : Type 0) where
-  jump_unless_lowers : (b : Bool) (n : ℕ) (s : State W) → Lowers {W = W} {R = R} (suc s.left) (jump_unless b n s)
-  jump_unless_lowers true n s = omega arith
-  jump_unless_lowers false n s = omega arith
+  jump_unless_lowers : (b : Bool) (n m : ℕ) (s : State W) → s.left < m → Lowers {W = W} {R = R} m (jump_unless b n s)
+  jump_unless_lowers true n m s lt = omega arith
+  jump_unless_lowers false n m s lt = lt
 
   pay_pages_lowers : (b : Bool) (pages : ℕ) (grown s : State W) → Lowers {W = W} {R = R} s.left (pay_pages b pages grown s)
   pay_pages_lowers true pages grown s = omega arith
@@ -140,6 +164,10 @@ module _ (W R : Type 0) where
 module _ {W R : Type 0} (program : Program) (calls : ℕ → State W → Outcome W R) (c : (f : ℕ) → AllLower (calls f)) where
   rest_of : (code : Expression) → AllLower (starts code (acts program calls code)) → (n : ℕ) (t : State W) → t.left ≤ n → Lowers n (starts code (acts program calls code) t)
   rest_of code h n t le = rest_lowers (starts code (acts program calls code)) h n t le
+
+  taking_paid : (stack : List ℕ) (s : State W) (go : ℕ → State W → Outcome W R) → ((k : ℕ) (t : State W) → t.left < suc s.left → Lowers (suc s.left) (go k t)) → Lowers (suc s.left) (taking stack s go)
+  taking_paid [] s go g = tt
+  taking_paid (k ∷ below) s go g = g k (on_stack s below) (omega arith)
 
   pub acts_lowers : (code : Expression) (s : State W) → Lowers (suc s.left) (acts program calls code s)
   acts_lowers Over s = omega arith
@@ -158,29 +186,28 @@ module _ {W R : Type 0} (program : Program) (calls : ℕ → State W → Outcome
       let r = starts_lowers rest (acts program calls rest) (acts_lowers rest) in
       let a = starts_lowers one (acts program calls one) (acts_lowers one) in
       let b = starts_lowers two (acts program calls two) (acts_lowers two) in
-      let t = on_stack s (popped (stack_of s)) in
-      and_then_lowers (suc s.left) _ _
-      (of_block_lowers kind (length (stack_of t)) (suc s.left) _ (rest_lowers _ (chosen_lowers (low (top (stack_of s)) == 0) _ _ a b) (suc s.left) t (omega arith)))
-      (rest_of rest r (suc s.left))
+      taking_lowers (stack_of s) s (suc s.left) _ (omega arith) (λ test t le. and_then_lowers (suc s.left) _ _
+      (of_block_lowers kind (length (stack_of t)) (suc s.left) _ (rest_lowers _ (chosen_lowers (low test == 0) _ _ a b) (suc s.left) t le))
+      (rest_of rest r (suc s.left)))
   acts_lowers (Br n rest) s = omega arith
   acts_lowers (BrIf n rest) s =
       let r = starts_lowers rest (acts program calls rest) (acts_lowers rest) in
-      and_then_lowers (suc s.left) _ _ (jump_unless_lowers W R (low (top (stack_of s)) == 0) n (on_stack s (popped (stack_of s)))) (rest_of rest r (suc s.left))
-  acts_lowers (BrTable ns n rest) s = omega arith
+      taking_paid (stack_of s) s _ (λ test t le. and_then_lowers (suc s.left) _ _ (jump_unless_lowers W R (low test == 0) n (suc s.left) t le) (rest_of rest r (suc s.left)))
+  acts_lowers (BrTable ns n rest) s = taking_paid (stack_of s) s _ (λ at t le. le)
   acts_lowers (Return rest) s = omega arith
   acts_lowers (Call f rest) s =
       let r = starts_lowers rest (acts program calls rest) (acts_lowers rest) in
       and_then_lowers (suc s.left) _ _ (rest_lowers (calls f) (c f) (suc s.left) s (omega arith)) (rest_of rest r (suc s.left))
-  acts_lowers (CallIndirect t rest) s =
+  acts_lowers (CallIndirect wanted rest) s =
       let r = starts_lowers rest (acts program calls rest) (acts_lowers rest) in
-      and_then_lowers (suc s.left) _ _
-      (rest_lowers _ (target_lowers (element program t (low (top (stack_of s)))) calls c) (suc s.left) (on_stack s (popped (stack_of s))) (omega arith))
-      (rest_of rest r (suc s.left))
+      taking_lowers (stack_of s) s (suc s.left) _ (omega arith) (λ at t le. and_then_lowers (suc s.left) _ _
+      (rest_lowers _ (target_lowers (element program wanted (low at)) calls c) (suc s.left) t le)
+      (rest_of rest r (suc s.left)))
   acts_lowers (MemoryGrow rest) s =
       let r = starts_lowers rest (acts program calls rest) (acts_lowers rest) in
-      and_then_lowers (suc s.left) _ _
-      (rest_lowers _ (grow_lowers W R (low (top (stack_of s)))) (suc s.left) (on_stack s (popped (stack_of s))) (omega arith))
-      (rest_of rest r (suc s.left))
+      taking_lowers (stack_of s) s (suc s.left) _ (omega arith) (λ pages t le. and_then_lowers (suc s.left) _ _
+      (rest_lowers _ (grow_lowers W R (low pages)) (suc s.left) t le)
+      (rest_of rest r (suc s.left)))
 
   pub does_lowers : (code : Expression) → AllLower (does program calls code)
   does_lowers code = starts_lowers code (acts program calls code) (acts_lowers code)
@@ -190,47 +217,41 @@ module _ {W R : Type 0} (host : HostMeaning W R) where
   HostFalls = (w : W) (number : ℕ) (args : List ℕ) (memory : LinearMemory) (left : ℕ) → (host w number args memory left).left ≤ left
 
 module _ {W R : Type 0} where
-  of_reply_lowers : (number : ℕ) (args below : List ℕ) (reply : Reply W R) (left : ℕ) (s : State W) → left ≤ s.left → Lowers s.left (of_reply number args below reply left s)
-  of_reply_lowers number args below (value n w m) left s le = le
-  of_reply_lowers number args below (nothing w m) left s le = le
-  of_reply_lowers number args below (exit w m) left s le = tt
-  of_reply_lowers number args below (refused r) left s le = tt
-  of_reply_lowers number args below step_limit left s le = tt
+  of_reply_lowers : (results : List ValueKind) (number : ℕ) (args below : List ℕ) (reply : Reply W R) (left : ℕ) (s : State W) → left ≤ s.left → Lowers s.left (of_reply results number args below reply left s)
+  of_reply_lowers results number args below (value n w m) left s le =
+      only_if_lowers (not (gives_none results)) s.left (Normal (record s { world = w; left = left; outside = after_call s.outside; values = record s.values { stack = n ∷ below; memory = m } })) le
+  of_reply_lowers results number args below (nothing w m) left s le =
+      only_if_lowers (gives_none results) s.left (Normal (record s { world = w; left = left; outside = after_call s.outside; values = record s.values { stack = below; memory = m } })) le
+  of_reply_lowers results number args below (exit w m) left s le = tt
+  of_reply_lowers results number args below (refused r) left s le = tt
+  of_reply_lowers results number args below step_limit left s le = tt
 
   host_supplied_lowers : (b : Bool) (number : ℕ) (args : List ℕ) (go : Outcome W R) (s : State W) → Lowers s.left go → Lowers s.left (host_supplied b number args go s)
   host_supplied_lowers true number args go s h = tt
   host_supplied_lowers false number args go s h = h
 
-  with_operands_lowers : (b : Bool) (go : State W → Outcome W R) → AllLower go → AllLower (with_operands b go)
-  with_operands_lowers true go h s = tt
-  with_operands_lowers false go h s = h s
-
   call_host_lowers : (host : HostMeaning W R) → HostFalls host → (kind : FuncType) (number : ℕ) → AllLower (call_host host kind number)
   call_host_lowers host falls kind number s =
-      let args = arguments (length kind.params) (stack_of s) in
+      let args = masked kind.params (arguments (length kind.params) (stack_of s)) in
       let outcome = host s.world number args s.values.memory s.left in
       host_supplied_lowers (s.outside.call_lacks s.outside.calls) number args _ s
-      (of_reply_lowers number args (drop (length kind.params) (stack_of s)) outcome.reply outcome.left s (falls s.world number args s.values.memory s.left))
+      (of_reply_lowers kind.results number args (drop (length kind.params) (stack_of s)) outcome.reply outcome.left s (falls s.world number args s.values.memory s.left))
 
   of_function_lowers : (host : HostMeaning W R) → HostFalls host → (own : FuncType → ℕ → Expression → State W → Outcome W R) → ((kind : FuncType) (locals : ℕ) (body : Expression) → AllLower (own kind locals body)) → (f : Option FunctionInstance) → AllLower (of_function host own f)
-  of_function_lowers host falls own h (Some (Own kind locals body)) s = h kind locals body s
+  of_function_lowers host falls own h (Some (Own kind locals body)) s = only_if_lowers (nat_le (length kind.params) (length (stack_of s))) s.left _ (h kind locals body s)
   of_function_lowers host falls own h (Some (Given kind number)) s =
-      with_operands_lowers (not (all_fit kind.params (arguments (length kind.params) (stack_of s)))) (call_host host kind number) (call_host_lowers host falls kind number) s
+      only_if_lowers (nat_le (length kind.params) (length (stack_of s))) s.left _ (call_host_lowers host falls kind number s)
   of_function_lowers host falls own h (Some Missing) s = tt
   of_function_lowers host falls own h None s = tt
 
   call_own_lowers : (runs : Expression → State W → Outcome W R) → ((code : Expression) → AllLower (runs code)) → (kind : FuncType) (locals : ℕ) (body : Expression) → AllLower (call_own runs kind locals body)
   call_own_lowers runs h kind locals body s = of_call_lowers (result_of kind.results) s.values.locals (drop (length kind.params) (stack_of s)) s.left _ (h body (entered kind locals s))
 
-  in_frame_lowers : (runs : Expression → State W → Outcome W R) → ((code : Expression) → AllLower (runs code)) → (kind : FuncType) (locals : ℕ) (body : Expression) → AllLower (in_frame runs kind locals body)
-  in_frame_lowers runs h kind locals body s =
-      with_operands_lowers (nat_lt (length (stack_of s)) (length kind.params)) (call_own runs kind locals body) (call_own_lowers runs h kind locals body) s
-
   pub call_lowers : (host : HostMeaning W R) → HostFalls host → (program : Program) (free f : ℕ) → AllLower (call host program free f)
   call_lowers host falls program zero f s = of_function_lowers host falls no_frame (λ kind locals body s. tt) (slice_get program.functions f) s
   call_lowers host falls program (suc free) f s =
-      of_function_lowers host falls (in_frame (does program (call host program free)))
-      (in_frame_lowers (does program (call host program free)) (does_lowers program (call host program free) (call_lowers host falls program free)))
+      of_function_lowers host falls (call_own (does program (call host program free)))
+      (call_own_lowers (does program (call host program free)) (does_lowers program (call host program free) (call_lowers host falls program free)))
       (slice_get program.functions f) s
 
   -- ---- a loop's turns
@@ -242,12 +263,13 @@ module _ {W R : Type 0} where
     where
       turn : ((t : State W) → t.left < m → t.left < n → turns m body height t ≡ turns n body height t) → (o : Outcome W R) → Lowers s.left o → of_loop height o (turns m body height) ≡ of_loop height o (turns n body height)
       turn next (Normal t) l = refl
-      turn next (Branch zero t) l = next (on_stack t (keep height (stack_of t))) (omega arith) (omega arith)
+      turn next (Branch zero t) l = ap (only_if (nat_le height (length (stack_of t)))) (next (on_stack t (keep height (stack_of t))) (omega arith) (omega arith))
       turn next (Branch (suc k) t) l = refl
       turn next (Returned t) l = refl
       turn next (Ended e t) l = refl
       turn next (Lacks t) l = refl
       turn next (InHost f args a k t) l = refl
+      turn next Stuck l = refl
 
   -- a loop's first turn, with the later ones counted anew
   pub turns_open : (n : ℕ) (body : State W → Outcome W R) (height : ℕ) → AllLower body → (s : State W) → s.left ≡ n → turns (suc n) body height s ≡ of_loop height (body s) (λ t. turns (suc t.left) body height t)
@@ -255,9 +277,10 @@ module _ {W R : Type 0} where
     where
       turn : (o : Outcome W R) → Lowers s.left o → of_loop height o (turns n body height) ≡ of_loop height o (λ t. turns (suc t.left) body height t)
       turn (Normal t) l = refl
-      turn (Branch zero t) l = turns_enough n (suc t.left) body height h (on_stack t (keep height (stack_of t))) (omega arith) (omega arith)
+      turn (Branch zero t) l = ap (only_if (nat_le height (length (stack_of t)))) (turns_enough n (suc t.left) body height h (on_stack t (keep height (stack_of t))) (omega arith) (omega arith))
       turn (Branch (suc k) t) l = refl
       turn (Returned t) l = refl
       turn (Ended e t) l = refl
       turn (Lacks t) l = refl
       turn (InHost f args a k t) l = refl
+      turn Stuck l = refl

@@ -4,7 +4,14 @@ pub mod Signs
 pub mod Bodies
 pub mod Calls
 pub mod Turning
+pub mod Rules
+pub mod Masks
+pub mod Counts
+pub mod Soundness
+pub mod Starts
 pub mod Making
 pub mod Reached
 pub mod Whole
+pub mod Programs
+pub mod Safe
 pub mod GivenTypes

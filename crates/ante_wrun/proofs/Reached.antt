@@ -23,7 +23,7 @@ use Rattle.ante_wrun.specs.Runs.{IsHosts}
 use Rattle.ante_wrun.specs.Instances.{given_as, given_functions, own, own_functions, program_in, is_function, apply_in}
 
 -- the parameters of `apply`
-abbrev three : List ValueKind
+abbrev pub three : List ValueKind
 three = I64 ∷ I64 ∷ I64 ∷ []
 
 -- ---- the types of the host's functions
@@ -132,3 +132,25 @@ apply_is_own m valid f e h = valid invalid.NoApply (λ (any : Any (IsApply m.typ
     given_kind m.types m.imports m.functions m.codes f h.0 h.1 h.2
     (λ k i at no. valid (invalid.ImportType k) (i, at, no))
     (λ t at host. let is : has.0 ≡ t = some_is has.0 t (sym has.1 ∙ at) in not_host_kind t (ap (λ (z : FuncType). z.params) (sym is) ∙ has.2) (ap (λ (z : FuncType). z.results) (sym is) ∙ has.3) host))
+
+-- it is there, and takes three i64
+pub apply_typed : (m : Tree) → IsValid m → (f : ℕ) → apply_in m ≡ Some f → (HasType m.types (function_types m) f three [] → ⊥) → ⊥
+apply_typed m valid f e not' = valid invalid.NoApply (λ (any : Any (IsApply m.types (function_types m)) m.exports).
+    not' (found_apply m.types (function_types m) m.exports (λ t. valid (invalid.Rule rule.ExportTwice) t) any.0 any.1 any.2 any.3 any.4 f e))
+
+none_found : (es : List Export) (k : ℕ) (x : Export) → k < length es → slice_index_or es k x ≡ x → tests x ≡ true → option_map (λ e. e.index) (find tests es) ≡ None → ⊥
+none_found [] k x lt at t h = absurd (omega arith)
+none_found (e ∷ es) k x lt at t h = head (tests e) refl k lt at (λ j l i g. none_found es j x l i t g)
+  where
+    none : (b : Bool) → tests e ≡ b → option_map (λ e. e.index) (cond b (Some e) (find tests es)) ≡ None
+    none b s = subst (λ c. option_map (λ (e : Export). e.index) (cond c (Some e) (find tests es)) ≡ None) s h
+
+    head : (b : Bool) → tests e ≡ b → (k : ℕ) → k < length (e ∷ es) → slice_index_or (e ∷ es) k x ≡ x →
+        ((j : ℕ) → j < length es → slice_index_or es j x ≡ x → option_map (λ e. e.index) (find tests es) ≡ None → ⊥) → ⊥
+    head true s k lt at rest = let never = none true s in cc
+    head false s zero lt at rest = let passed : tests e ≡ true = subst (λ z. tests z ≡ true) (sym at) t in cc
+    head false s (suc j) lt at rest = rest j (omega arith) at (none false s)
+
+pub apply_there : (m : Tree) → IsValid m → apply_in m ≡ None → ⊥
+apply_there m valid e = valid invalid.NoApply (λ (any : Any (IsApply m.types (function_types m)) m.exports).
+    none_found m.exports any.0 any.1 any.2 any.3 (passes m.types (function_types m) any.1 any.4) e)

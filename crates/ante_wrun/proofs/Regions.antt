@@ -1,12 +1,11 @@
 -- A list in three parts, as the values of the frames lie in it, and what the operations on the last part make of it.
-use Rattle.std.proofs.Common.{◌≡◌, ℕ, suc, ◌+◌, ◌-◌, ◌<◌, ◌≤◌, List, [], ◌∷◌, ◌++◌, length, take, drop, reverse, replicate, set, min, Option, None, Some, refl, sym, ap, subst, ◌∙◌, arith, length-append, length-drop, append_assoc, take-take, Bool, true, false, ◌⊎◌, ⊎_elim}
+use Rattle.std.proofs.Common.{◌≡◌, ℕ, suc, ◌+◌, ◌-◌, ◌<◌, ◌≤◌, List, [], ◌∷◌, ◌++◌, length, take, drop, reverse, replicate, set, min, Option, None, Some, refl, sym, ap, subst, ◌∙◌, arith, length-append, length-drop, append_assoc, take-take, true, false, ◌⊎◌, ⊎_elim}
 use Rattle.std.specs.Option.{is_some}
-use Rattle.std.specs.Prelude.{◌&&◌}
 use Rattle.std.proofs.lemmas.List.{take-append-drop, drop-take, reverse-reverse, reverse-append, length-reverse, drop-drop, length-take, length-take-le, set_split, length-set, append-nil, set-append_left, set-append_right, take_more_set}
 use Rattle.std.proofs.Math.Seq.{take-append_seam, drop-append_seam, take-append-add, drop-append-add, drop-length}
 use Rattle.ante_wtree.specs.declared.instructions.ValueKind.{ValueKind}
 use Rattle.ante_wrun.specs.Effects.{top, popped}
-use Rattle.ante_wrun.specs.Meaning.{keep, unwound, arity, arguments, fits, all_fit}
+use Rattle.ante_wrun.specs.Meaning.{keep, unwound, arity, arguments}
 use Rattle.ante_wrun.specs.Frames.{FrameValues}
 
 -- ---- lists from their other end
@@ -210,10 +209,13 @@ module _ (xs : List ℕ) (base floor : ℕ) (v : FrameValues) (e : view xs base 
   height_is : length v.stack ≡ length (drop floor xs)
   height_is = ap (λ w. length w.stack) (sym e) ∙ length-reverse (drop floor xs)
 
-  pub keep_view : (ys : List ℕ) (h : ℕ) → ys ≡ take (floor + h) xs → h < length v.stack → view ys base floor ≡ record { below = v.below; locals = v.locals; stack = keep h v.stack }
-  keep_view ys h y lt =
+  pub locals_count : length v.locals ≡ floor - base
+  locals_count = ap (λ w. length w.locals) (sym e) ∙ l_length xs base floor b f
+
+  pub keep_view : (ys : List ℕ) (h : ℕ) → ys ≡ take (floor + h) xs → h ≤ length v.stack → view ys base floor ≡ record { below = v.below; locals = v.locals; stack = keep h v.stack }
+  keep_view ys h y le =
       ap (λ z. view z base floor) y
-      ∙ subst (λ w. view (take (floor + h) xs) base floor ≡ record { below = w.below; locals = w.locals; stack = keep h w.stack }) e (keep_at xs base floor b f h (omega (arith, lt, height_is)))
+      ∙ subst (λ w. view (take (floor + h) xs) base floor ≡ record { below = w.below; locals = w.locals; stack = keep h w.stack }) e (keep_at xs base floor b f h (omega (arith, le, height_is)))
 
   pub local_view : (at x : ℕ) → at < floor - base → view (set xs (base + at) x) base floor ≡ record { below = v.below; locals = set v.locals at x; stack = v.stack }
   local_view at x lt =
@@ -274,27 +276,3 @@ kept_answer h count stack e lt =
     let m : count + 1 ≡ 1 + count = omega arith in
     ap (λ k. popped (drop k stack)) n ∙ popped_is (drop count stack) ∙ drop-drop 1 count stack ∙ ap (λ k. drop k stack) m
     ∙ sym (ap (drop count) (popped_is stack) ∙ drop-drop count 1 stack)
-
--- values of as many kinds are as many
-pub many : (kinds : List ValueKind) (stack : List ℕ) → all_fit kinds (arguments (length kinds) stack) ≡ true → length kinds ≤ length stack
-many kinds stack h = omega (arith, same kinds (arguments (length kinds) stack) h, length-reverse (take (length kinds) stack), few (length kinds) stack)
-  where
-    few : (n : ℕ) (xs : List ℕ) → length (take n xs) ≤ length xs
-    few n xs = grind (arith, length-take n xs)
-
-    same : (kinds : List ValueKind) (ns : List ℕ) → all_fit kinds ns ≡ true → length kinds ≡ length ns
-    same [] [] h = refl
-    same [] (n ∷ ns) h = cc
-    same (k ∷ ks) [] h = cc
-    same (k ∷ ks) (n ∷ ns) h = ap suc (same ks ns (rest (fits k n) (all_fit ks ns) h))
-      where
-        rest : (a b : Bool) → (a && b) ≡ true → b ≡ true
-        rest true b h = h
-        rest false b h = cc
-
-pub too_few : (kinds : List ValueKind) (stack : List ℕ) → length stack < length kinds → all_fit kinds (arguments (length kinds) stack) ≡ false
-too_few kinds stack lt = go (all_fit kinds (arguments (length kinds) stack)) refl
-  where
-    go : (b : Bool) → all_fit kinds (arguments (length kinds) stack) ≡ b → all_fit kinds (arguments (length kinds) stack) ≡ false
-    go true e = absurd (omega (arith, lt, many kinds stack e))
-    go false e = e

@@ -16,13 +16,14 @@ use Rattle.ante_wrun.specs.declared.ends.RunEnd.TheVariants as end
 use Rattle.ante_wrun.specs.declared.thread.Frame.{Frame}
 use Rattle.ante_wrun.specs.declared.thread.Frame.TheVariants as frame
 use Rattle.ante_wrun.specs.declared.thread.Thread.{Thread}
-use Rattle.ante_wrun.specs.Meaning.{Outside, after_look, after_item, Program, State, Outcome, Normal, Branch, Returned, Ended, Lacks, InHost, and_then, settled, invoked, stack_of, arguments, supplied, pay, seen, step, starts, due, of_reply, host_supplied, call_host, acts, does, call}
+use Rattle.ante_wrun.specs.Meaning.{Outside, after_look, after_item, Program, State, Outcome, Normal, Branch, Returned, Ended, Lacks, InHost, Stuck, and_then, settled, invoked, stack_of, arguments, masked, supplied, pay, seen, step, starts, due, of_reply, host_supplied, call_host, acts, does, call}
 use Rattle.ante_wrun.specs.Machine.{state_of, under, whole, going, after, Finds}
 use Rattle.ante_wrun.specs.Control.{Stops}
-use Rattle.ante_wrun.specs.Runs.{Event, Looked, Supplied, CallSupplied, asked, Begins, past, looks_of, ByEvents, Ends, Lacking, Wanting}
-use Rattle.ante_wrun.specs.Turns.{MayLook}
+use Rattle.ante_wrun.specs.Runs.{Event, Looked, Supplied, CallSupplied, asked, Begins, past, looks_of, ByEvents, Ends, Lacking, Wanting, NotStuck, Calm, Sound}
+use Rattle.ante_wrun.specs.Turns.{MayLook, Replies}
 use Rattle.ante_wrun.proofs.Bodies.{no_items}
 use Rattle.ante_wrun.proofs.Calls.{ended}
+use Rattle.ante_wrun.proofs.Rules.{replies_so}
 
 -- ---- events of a step
 
@@ -53,6 +54,14 @@ past_is true v tail = refl
 pub past_pay : (d : Bool) (answer : Option ℕ) (v : Outside) → past v (pay_events d answer []) ≡ after_pay d v
 past_pay false answer v = refl
 past_pay true answer v = refl
+
+calm_begins : (d : Bool) (v : Outside) → Calm v → Begins v (pay_events d None (Supplied ∷ []))
+calm_begins false v h = (h.1 v.items, tt)
+calm_begins true v h = (h.0 v.looks, (h.1 v.items, tt))
+
+calm_pay : (d : Bool) (v : Outside) → Calm v → Calm (after_item (after_pay d v))
+calm_pay false v h = h
+calm_pay true v h = h
 
 module _ {S W R : Type 0} where
   pub supplied_turn : (may : S → Option ℕ → S → Type 0) (old new : S) (d : Bool) (o o' : Outside → Outcome W R) (Q : Outcome W R → Outside → Type 0) (tail : List Event) →
@@ -182,23 +191,33 @@ module _ {W R : Type 0} (host : HostMeaning W R) (program : Program) where
 -- ---- host calls
 
 module _ {W R : Type 0} (host : HostMeaning W R) where
-  pub replied : (kind : FuncType) (number : ℕ) (s : State W) (args : List ℕ) (outcome : calls.Outcome W R) → args ≡ arguments (length kind.params) (stack_of s) →
+  pub replied : (kind : FuncType) (number : ℕ) (s : State W) (args : List ℕ) (outcome : calls.Outcome W R) → args ≡ masked kind.params (arguments (length kind.params) (stack_of s)) →
       s.outside.call_lacks s.outside.calls ≡ false → host s.world number args s.values.memory s.left ≡ outcome →
-      call_host host kind number s ≡ of_reply number (arguments (length kind.params) (stack_of s)) (drop (length kind.params) (stack_of s)) outcome.reply outcome.left s
+      call_host host kind number s ≡ of_reply kind.results number (masked kind.params (arguments (length kind.params) (stack_of s))) (drop (length kind.params) (stack_of s)) outcome.reply outcome.left s
   replied kind number s args outcome a l h =
-      let args' = arguments (length kind.params) (stack_of s) in
+      let args' = masked kind.params (arguments (length kind.params) (stack_of s)) in
       let below = drop (length kind.params) (stack_of s) in
       let o = host s.world number args' s.values.memory s.left in
-      ap (λ b. host_supplied b number args' (of_reply number args' below o.reply o.left s) s) l
-      ∙ ap (λ x. of_reply number args' below x.reply x.left s) (ap (λ x. host s.world number x s.values.memory s.left) (sym a) ∙ h)
+      ap (λ b. host_supplied b number args' (of_reply kind.results number args' below o.reply o.left s) s) l
+      ∙ ap (λ x. of_reply kind.results number args' below x.reply x.left s) (ap (λ x. host s.world number x s.values.memory s.left) (sym a) ∙ h)
 
   pub unsupplied : (kind : FuncType) (number : ℕ) (s : State W) → s.outside.call_lacks s.outside.calls ≡ true →
-      call_host host kind number s ≡ InHost number (arguments (length kind.params) (stack_of s)) answer.OutOfMemory s.left s
+      call_host host kind number s ≡ InHost number (masked kind.params (arguments (length kind.params) (stack_of s))) answer.OutOfMemory s.left s
   unsupplied kind number s l =
-      let args' = arguments (length kind.params) (stack_of s) in
+      let args' = masked kind.params (arguments (length kind.params) (stack_of s)) in
       let below = drop (length kind.params) (stack_of s) in
       let o = host s.world number args' s.values.memory s.left in
-      ap (λ b. host_supplied b number args' (of_reply number args' below o.reply o.left s) s) l
+      ap (λ b. host_supplied b number args' (of_reply kind.results number args' below o.reply o.left s) s) l
+
+  -- a call of a run that isn't stuck is answered as its type says
+  pub answered : (kind : FuncType) (number : ℕ) (s : State W) → s.outside.call_lacks s.outside.calls ≡ false → NotStuck (call_host host kind number s) →
+      Replies kind.results (host s.world number (masked kind.params (arguments (length kind.params) (stack_of s))) s.values.memory s.left).reply
+  answered kind number s l h =
+      let args' = masked kind.params (arguments (length kind.params) (stack_of s)) in
+      let below = drop (length kind.params) (stack_of s) in
+      let o = host s.world number args' s.values.memory s.left in
+      replies_so kind.results number args' below o.reply o.left s
+      (subst NotStuck (ap (λ b. host_supplied b number args' (of_reply kind.results number args' below o.reply o.left s) s) l) h)
 
 -- ---- whole turns
 
@@ -212,14 +231,27 @@ module _ {S W R : Type 0} (host : HostMeaning W R) (stands : W → ℕ → List 
   abbrev before : Outside → Outcome W R
   before v = going host program t0 (state_of t0.state w left last v)
 
+  abbrev pub acting : (n last' : ℕ) → Outside → Outcome W R
+  acting n last' u = whole host program t1 (first_of host program t1 i (state_of t1.state w n last' u))
+
+  paid_at : (n last' : ℕ) → left ≡ suc n → last' ≡ left → (v : Outside) → Begins v (pay_events (due left last) None (Supplied ∷ [])) → before v ≡ acting n last' (after_item (after_pay (due left last) v))
+  paid_at n last' e l v b =
+      paid host program (before v) t1 i (state_of t1.state w left last v) n (find v) e b
+      ∙ ap (λ k. acting n k (after_item (after_pay (due left last) v))) (sym l)
+
+  -- an instruction of a run that isn't stuck
+  pub sound_turn : (n last' : ℕ) → left ≡ suc n → last' ≡ left → Sound before → Sound (acting n last')
+  sound_turn n last' e l h = (
+    after_item (after_pay (due left last) h.0),
+    calm_pay (due left last) h.0 h.1,
+    subst NotStuck (paid_at n last' e l h.0 (calm_begins (due left last) h.0 h.1)) h.2,
+  )
+
   pub turn_by : (n last' : ℕ) → left ≡ suc n → last' ≡ left → MayLook may (due left last) old None new → (Q : Outcome W R → Outside → Type 0) (tail : List Event) → looks_of tail ≡ [] →
       ((u : Outside) → Begins u tail → Q (whole host program t1 (first_of host program t1 i (state_of t1.state w n last' u))) (past u tail)) →
       ByEvents may old new (λ events. (v : Outside) → Begins v events → Q (before v) (past v events))
   turn_by n last' e l look Q tail no_looks then' =
-      supplied_turn may old new (due left last) before (λ u. whole host program t1 (first_of host program t1 i (state_of t1.state w n last' u))) Q tail no_looks look
-      (λ v b. paid host program (before v) t1 i (state_of t1.state w left last v) n (find v) e b
-      ∙ ap (λ k. whole host program t1 (first_of host program t1 i (state_of t1.state w n k (after_item (after_pay (due left last) v))))) (sym l))
-      then'
+      supplied_turn may old new (due left last) before (acting n last') Q tail no_looks look (paid_at n last' e l) then'
 
   pub limit_by : (left' : ℕ) → left ≡ 0 → left' ≡ 0 → MayLook may (due left last) old None new →
       ByEvents may old new (λ events. (v : Outside) → Begins v events → Ends stands end.StepLimit w left' (past v events) (before v))
@@ -306,6 +338,7 @@ module _ {W R : Type 0} (host : HostMeaning W R) (program : Program) where
       over (Ended e s) = refl
       over (Lacks s) = refl
       over (InHost f args a n s) = refl
+      over Stuck = refl
 
   pub called : (t : Thread) → length t.code.now ≡ 0 → t.frames ≡ [] → (f : ℕ) (s : State W) → s.outside.item_lacks s.outside.items ≡ false →
       invoked host program t.free f s ≡ after host program t (call host program t.free f (record s { outside = after_item s.outside }))
@@ -318,6 +351,9 @@ module _ {S W R : Type 0} (host : HostMeaning W R) (program : Program) (may : S 
 
   abbrev pub called_at : Outside → Outcome W R
   called_at u = after host program t (call host program t.free f (state_of t.state w left last u))
+
+  pub sound_call : Sound outset → Sound called_at
+  sound_call h = (after_item h.0, h.1, subst NotStuck (called host program t idle bare f (state_of t.state w left last h.0) (h.1.1 h.0.items)) h.2)
 
   pub invoke_by : (Q : Outcome W R → Outside → Type 0) (tail : List Event) → looks_of tail ≡ [] → ((u : Outside) → Begins u tail → Q (called_at u) (past u tail)) →
       ByEvents may old old (λ events. (v : Outside) → Begins v events → Q (outset v) (past v events))

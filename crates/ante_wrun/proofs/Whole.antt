@@ -16,7 +16,7 @@ use Rattle.ante_wrun.specs.Effects.{Values}
 use Rattle.ante_wrun.specs.declared.machine.Called.{Called}
 use Rattle.ante_wrun.specs.Parts.{CallLeads}
 use Rattle.ante_wrun.specs.Frames.{FrameValues}
-use Rattle.ante_wrun.specs.Meaning.{Outside, after_look, after_item, after_call, Program, State, Outcome, Normal, Branch, Returned, Ended, Lacks, InHost, supplied, and_then, invoked}
+use Rattle.ante_wrun.specs.Meaning.{Outside, after_look, after_item, after_call, Program, State, Outcome, Normal, Branch, Returned, Ended, Lacks, InHost, Stuck, supplied, and_then, invoked}
 use Rattle.ante_wrun.specs.Machine.{state_of}
 use Rattle.ante_wrun.specs.Runs.{Event, Looked, Supplied, CallSupplied, looks_of, Begins, past, ByEvents, Wanting, Ends, Lacking}
 use Rattle.ante_wrun.specs.Running.{most_frames, called_with, outset_of, where_fit, both_run, run_of, RunAnswers, CountsLooks, NeverAsks, EndsSo}
@@ -35,6 +35,7 @@ module _ {W R : Type 0} (stands : W → ℕ → List ℕ → LinearMemory → �
   lacking_then w left u (Ended e s) go h = h
   lacking_then w left u (Lacks s) go h = h
   lacking_then w left u (InHost f args a n s) go h = h
+  lacking_then w left u Stuck go h = h
 
   pub ends_then : (e : RunEnd R) (w : W) (left : ℕ) (u : Outside) (o : Outcome W R) (go : State W → Outcome W R) → (e ≡ end.Done → ⊥) → Ends stands e w left u o → Ends stands e w left u (and_then o go)
   ends_then e w left u (Normal s) go early h = absurd (early h.0)
@@ -43,6 +44,7 @@ module _ {W R : Type 0} (stands : W → ℕ → List ℕ → LinearMemory → �
   ends_then e w left u (Ended f s) go early h = h
   ends_then e w left u (Lacks s) go early h = h
   ends_then e w left u (InHost f args a n s) go early h = h
+  ends_then e w left u Stuck go early h = h
 
   pub done : (d : Data) (w : W) (left last : ℕ) (u : Outside) (o : Outcome W R) → o ≡ Normal (state_of d w left last u) → Ends stands end.Done w left u o
   done d w left last u o h = subst (Ends stands end.Done w left u) (sym h) (refl, refl, refl, refl)

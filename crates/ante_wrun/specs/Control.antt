@@ -1,10 +1,11 @@
 -- What instructions lead a thread to.
-use Rattle.std.specs.Prelude.{◌≡◌, ℕ, zero, suc, ◌<◌, map, length, slice_get, Some, true}
+use Rattle.std.specs.Prelude.{◌≡◌, ℕ, zero, suc, ◌<◌, ◌≤◌, map, length, slice_get, Option, None, Some, Result, Ok, Err}
 use Rattle.ante_wmem.specs.HostCalls.{HostMeaning}
 use Rattle.ante_wtree.specs.declared.modules.FuncType.{FuncType}
 use Rattle.ante_wtree.specs.Expressions.{Expression, expression_of}
 use Rattle.ante_wrun.specs.declared.ends.RunEnd.{RunEnd}
 use Rattle.ante_wrun.specs.declared.ends.RunEnd.TheVariants as end
+use Rattle.ante_wrun.specs.declared.ends.TrapKind.{TrapKind}
 use Rattle.ante_wrun.specs.declared.thread.Thread.{Thread}
 use Rattle.ante_wrun.specs.declared.control.Function.{Function}
 use Rattle.ante_wrun.specs.declared.control.Function.TheVariants as function
@@ -12,7 +13,7 @@ use Rattle.ante_wrun.specs.declared.control.Functions.{Functions}
 use Rattle.ante_wrun.specs.declared.control.Next.{Next}
 use Rattle.ante_wrun.specs.declared.control.Next.TheVariants as next
 use Rattle.ante_wrun.specs.Effects.{popped}
-use Rattle.ante_wrun.specs.Meaning.{Outside, FunctionInstance, Own, Given, Missing, Program, State, Outcome, Ended, on_stack, arguments, all_fit, call_host, no_frame, in_frame, does, call}
+use Rattle.ante_wrun.specs.Meaning.{Outside, FunctionInstance, Own, Given, Missing, Program, State, Outcome, Ended, on_stack, call_host, no_frame, call_own, does, call}
 use Rattle.ante_wrun.specs.Machine.{state_of, going, after}
 
 abbrev pub instance_of : Function → FunctionInstance
@@ -26,6 +27,21 @@ program_of f = record { types = f.types.now; functions = map instance_of f.all.i
 -- the function of this number is one of the host's
 abbrev pub IsGiven : Program → FuncType → ℕ → Type 0
 IsGiven program kind number = (f : ℕ) × (slice_get program.functions f ≡ Some (Given kind number))
+
+-- ---- what a thread has, so that a rule applies
+
+-- the function takes no more than so many operands
+abbrev pub Takes : Option FunctionInstance → ℕ → Type 0
+Takes (Some (Own kind locals body)) count = length kind.params ≤ count
+Takes (Some (Given kind number)) count = length kind.params ≤ count
+Takes (Some Missing) count = ⊥
+Takes None count = ⊥
+
+-- what a call by the table leads to takes no more than so many operands
+abbrev pub Leaves : Program → Option (Result ℕ TrapKind) → ℕ → Type 0
+Leaves program (Some (Ok f)) count = Takes (slice_get program.functions f) count
+Leaves program (Some (Err kind)) count = Unit {0}
+Leaves program None count = ⊥
 
 abbrev pub NotHostCall : Next → Type 0
 NotHostCall next.Go = Unit {0}
@@ -50,7 +66,7 @@ module _ {W R : Type 0} (host : HostMeaning W R) (program : Program) where
   -- a call of one of the module's functions where so many frames are free
   abbrev pub own_at : ℕ → FuncType → ℕ → Expression → State W → Outcome W R
   own_at zero = no_frame
-  own_at (suc free) = in_frame (does program (call host program free))
+  own_at (suc free) = call_own (does program (call host program free))
 
   abbrev pub Leads : Outcome W R → Next → Thread → W → (left last : ℕ) → Outside → Type 0
   Leads o next.Go t w left last outside = o ≡ going host program t (state_of t.state w left last outside)
@@ -60,4 +76,4 @@ module _ {W R : Type 0} (host : HostMeaning W R) (program : Program) where
   Leads o (next.HostCall kind number) t w left last outside =
       let s = state_of t.state w left last outside in
       (o ≡ after host program t (call_host host kind.now number (on_stack s (popped s.values.stack)))) × (length kind.now.params < length t.state.values.stack)
-      × (all_fit kind.now.params (arguments (length kind.now.params) (popped s.values.stack)) ≡ true) × IsGiven program kind.now number
+      × IsGiven program kind.now number

@@ -1,5 +1,5 @@
 -- What the machine's parts stand for.
-use Rattle.std.specs.Prelude.{◌≡◌, ℕ, List, [], ◌∷◌, take, drop, reverse, Option, None, Some}
+use Rattle.std.specs.Prelude.{◌≡◌, ℕ, zero, suc, ◌+◌, ◌≤◌, List, [], ◌∷◌, take, drop, reverse, Option, None, Some}
 use denote.Bor.{Bor}
 use Rattle.ante_wmem.specs.HostCalls.{HostMeaning}
 use Rattle.ante_wtree.specs.declared.instructions.Instr.{Instr}
@@ -9,8 +9,8 @@ use Rattle.ante_wrun.specs.declared.data.Data.{Data}
 use Rattle.ante_wrun.specs.declared.thread.Frame.{Frame}
 use Rattle.ante_wrun.specs.declared.thread.Frame.TheVariants as frame
 use Rattle.ante_wrun.specs.declared.thread.Thread.{Thread}
-use Rattle.ante_wrun.specs.Effects.{Values, Effect, Next, Traps}
-use Rattle.ante_wrun.specs.Meaning.{Outside, Program, State, Outcome, Normal, and_then, does, call}
+use Rattle.ante_wrun.specs.Effects.{Values, Effect, Next, Traps, NoRule}
+use Rattle.ante_wrun.specs.Meaning.{Outside, Program, State, Outcome, Normal, arity, and_then, does, call}
 use Rattle.ante_wrun.specs.Frames.{Open, InBlock, InLoop, InCall, unwind}
 
 -- ---- plain instructions
@@ -22,6 +22,7 @@ values_of d = record { locals = d.values.locals; stack = d.values.stack; globals
 abbrev pub Does : Effect → Option TrapKind → Data → Data → Type 0
 Does (Next v) trap old new = (trap ≡ None) × (values_of new ≡ v)
 Does (Traps kind) trap old new = (trap ≡ Some kind) × (new.memory ≡ old.memory)
+Does NoRule trap old new = ⊥
 
 -- ---- frames
 
@@ -35,6 +36,31 @@ opens below (frame.Block kind height rest ∷ frames) = InBlock kind height (exp
 opens below (frame.Loop height body rest ∷ frames) = InLoop height (expression_of body.now) (expression_of rest.now) ∷ opens below frames
 opens below (frame.Call kind base locals free rest ∷ frames) =
     InCall kind (take locals (drop base below)) (reverse (drop locals (drop base below))) free (expression_of rest.now) ∷ opens (take base below) frames
+
+-- ---- what a thread has, so that a rule applies
+
+-- A branch to this depth finds its label, and as many operands as this wants: those that were there, and the results.
+abbrev pub Reaches : List Frame → (depth : ℕ) → (count : ℕ) → Type 0
+Reaches [] depth count = ⊥
+Reaches (frame.Block kind height rest ∷ frames) zero count = height + arity kind ≤ count
+Reaches (frame.Block kind height rest ∷ frames) (suc depth) count = Reaches frames depth count
+Reaches (frame.Loop height body rest ∷ frames) zero count = height ≤ count
+Reaches (frame.Loop height body rest ∷ frames) (suc depth) count = Reaches frames depth count
+Reaches (frame.Call kind base locals free rest ∷ frames) zero count = arity kind ≤ count
+Reaches (frame.Call kind base locals free rest ∷ frames) (suc depth) count = ⊥
+
+-- a return finds the function's frame and results
+abbrev pub Returns : List Frame → (count : ℕ) → Type 0
+Returns [] count = ⊥
+Returns (frame.Block kind height rest ∷ frames) count = Returns frames count
+Returns (frame.Loop height body rest ∷ frames) count = Returns frames count
+Returns (frame.Call kind base locals free rest ∷ frames) count = arity kind ≤ count
+
+-- a body that ends leaves its function's results
+abbrev pub Gives : Frame → (count : ℕ) → Type 0
+Gives (frame.Block kind height rest) count = Unit {0}
+Gives (frame.Loop height body rest) count = Unit {0}
+Gives (frame.Call kind base locals free rest) count = arity kind ≤ count
 
 module _ {W R : Type 0} (host : HostMeaning W R) (program : Program) where
   abbrev pub under : (free : ℕ) → (below : List ℕ) → List Frame → Outcome W R → Outcome W R

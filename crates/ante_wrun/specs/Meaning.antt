@@ -1,6 +1,7 @@
 -- The meaning of a body: the execution chapter of WebAssembly Core 1.0 (section 4.4) as recursion on the tree, with the
--- steps that are paid, the looks at the stop and the frames that there may be. W is the host, R its refusals.
-use Rattle.std.specs.Prelude.{ℕ, zero, suc, ◌+◌, ◌-◌, ◌/◌, ◌^◌, Bool, true, false, not, ◌&&◌, ◌==◌, nat_lt, nat_le, List, [], ◌∷◌, ◌++◌, length, take, drop, reverse, replicate, slice_get, slice_index_or, Option, None, Some, Result, Ok, Err}
+-- steps that are paid, the looks at the stop and the frames that there may be. W is the host, R its refusals. Where the
+-- chapter says "due to validation" and it isn't so, the run is stuck; one of a valid module never is.
+use Rattle.std.specs.Prelude.{ℕ, zero, suc, ◌+◌, ◌-◌, ◌/◌, ◌%◌, ◌^◌, Bool, true, false, not, ◌&&◌, ◌==◌, nat_lt, nat_le, List, [], ◌∷◌, ◌++◌, length, take, drop, reverse, replicate, slice_get, slice_index_or, Option, None, Some, Result, Ok, Err}
 use Rattle.ante_wmem.specs.Linear.{may_grow, growth_answer, grown}
 use Rattle.ante_wmem.specs.HostCalls.{Reply, value, nothing, exit, refused, step_limit, HostMeaning}
 use Rattle.ante_wmem.specs.declared.host.HostAnswer.{HostAnswer}
@@ -13,7 +14,7 @@ use Rattle.ante_wrun.specs.declared.ends.TrapKind.{TrapKind}
 use Rattle.ante_wrun.specs.declared.ends.TrapKind.TheVariants as trap
 use Rattle.ante_wrun.specs.declared.ends.RunEnd.{RunEnd}
 use Rattle.ante_wrun.specs.declared.ends.RunEnd.TheVariants as end
-use Rattle.ante_wrun.specs.Effects.{Values, Effect, Next, Traps, effect, top, popped, low, with_stack}
+use Rattle.ante_wrun.specs.Effects.{Values, Effect, Next, Traps, NoRule, effect, low, with_stack}
 
 -- ---- what the outside decides while a run lasts
 
@@ -70,6 +71,8 @@ pub data Outcome (W R : Type 0) : Type 0 where
   Lacks : State W → Outcome W R
   -- The host ended the run by this answer: the function, the arguments, the answer, the steps left by it. The state is that of the call.
   InHost : ℕ → List ℕ → HostAnswer R → ℕ → State W → Outcome W R
+  -- no rule applies
+  Stuck : Outcome W R
 
 -- the lowest operands, as many as there were at a block's begin
 abbrev pub keep : (height : ℕ) → List ℕ → List ℕ
@@ -157,6 +160,11 @@ module _ {W R : Type 0} where
 
   -- ---- what follows an outcome
 
+  -- without this no rule applies
+  abbrev pub only_if : Bool → Outcome W R → Outcome W R
+  only_if true o = o
+  only_if false o = Stuck
+
   abbrev pub and_then : Outcome W R → (State W → Outcome W R) → Outcome W R
   and_then (Normal s) go = go s
   and_then (Branch n s) go = Branch n s
@@ -164,50 +172,69 @@ module _ {W R : Type 0} where
   and_then (Ended e s) go = Ended e s
   and_then (Lacks s) go = Lacks s
   and_then (InHost f args a n s) go = InHost f args a n s
+  and_then Stuck go = Stuck
 
-  -- a branch to a block's label goes on after the block
+  -- a branch to a block's label goes on after the block, with the block's results
   abbrev pub of_block : Option ValueKind → (height : ℕ) → Outcome W R → Outcome W R
   of_block kind height (Normal s) = Normal s
-  of_block kind height (Branch zero s) = Normal (on_stack s (unwound kind height (stack_of s)))
+  of_block kind height (Branch zero s) = only_if (nat_le (height + arity kind) (length (stack_of s))) (Normal (on_stack s (unwound kind height (stack_of s))))
   of_block kind height (Branch (suc n) s) = Branch n s
   of_block kind height (Returned s) = Returned s
   of_block kind height (Ended e s) = Ended e s
   of_block kind height (Lacks s) = Lacks s
   of_block kind height (InHost f args a n s) = InHost f args a n s
+  of_block kind height Stuck = Stuck
 
   -- a branch to a loop's label begins its body again
   abbrev pub of_loop : (height : ℕ) → Outcome W R → (State W → Outcome W R) → Outcome W R
   of_loop height (Normal s) again = Normal s
-  of_loop height (Branch zero s) again = again (on_stack s (keep height (stack_of s)))
+  of_loop height (Branch zero s) again = only_if (nat_le height (length (stack_of s))) (again (on_stack s (keep height (stack_of s))))
   of_loop height (Branch (suc n) s) again = Branch n s
   of_loop height (Returned s) again = Returned s
   of_loop height (Ended e s) again = Ended e s
   of_loop height (Lacks s) again = Lacks s
   of_loop height (InHost f args a n s) again = InHost f args a n s
+  of_loop height Stuck again = Stuck
+
+  -- the results are on top of the operands
+  abbrev pub back : Option ValueKind → (locals stack : List ℕ) → State W → Outcome W R
+  back kind locals stack s = only_if (nat_le (arity kind) (length (stack_of s))) (Normal (returned kind locals stack s))
 
   -- a branch out of a function's body returns
   abbrev pub of_call : Option ValueKind → (locals stack : List ℕ) → Outcome W R → Outcome W R
-  of_call kind locals stack (Normal s) = Normal (returned kind locals stack s)
-  of_call kind locals stack (Branch n s) = Normal (returned kind locals stack s)
-  of_call kind locals stack (Returned s) = Normal (returned kind locals stack s)
+  of_call kind locals stack (Normal s) = back kind locals stack s
+  of_call kind locals stack (Branch zero s) = back kind locals stack s
+  of_call kind locals stack (Branch (suc n) s) = Stuck
+  of_call kind locals stack (Returned s) = back kind locals stack s
   of_call kind locals stack (Ended e s) = Ended e s
   of_call kind locals stack (Lacks s) = Lacks s
   of_call kind locals stack (InHost f args a n s) = InHost f args a n s
+  of_call kind locals stack Stuck = Stuck
 
   -- nothing is around the function that is invoked from outside
   abbrev pub settled : Outcome W R → Outcome W R
   settled (Normal s) = Normal s
-  settled (Branch n s) = Normal s
-  settled (Returned s) = Normal s
+  settled (Branch n s) = Stuck
+  settled (Returned s) = Stuck
   settled (Ended e s) = Ended e s
   settled (Lacks s) = Lacks s
   settled (InHost f args a n s) = InHost f args a n s
+  settled Stuck = Stuck
 
   abbrev pub of_effect : Effect → State W → (State W → Outcome W R) → Outcome W R
   of_effect (Next v) s go = go (with_values s v)
   of_effect (Traps kind) s go = Ended (end.Trap kind) s
+  of_effect NoRule s go = Stuck
 
   -- ---- control instructions
+
+  -- the topmost operand is taken off
+  abbrev pub taking : List ℕ → State W → (ℕ → State W → Outcome W R) → Outcome W R
+  taking [] s go = Stuck
+  taking (n ∷ below) s go = go n (on_stack s below)
+
+  abbrev pub take_one : State W → (ℕ → State W → Outcome W R) → Outcome W R
+  take_one s go = taking (stack_of s) s go
 
   -- At most so many turns. A branch back to a loop has taken a step, so one turn more than the steps left is never met.
   abbrev pub turns : ℕ → (State W → Outcome W R) → (height : ℕ) → State W → Outcome W R
@@ -223,9 +250,10 @@ module _ {W R : Type 0} where
   jump_unless true n s = Normal s
   jump_unless false n s = Branch n s
 
-  abbrev pub target : Result ℕ TrapKind → (ℕ → State W → Outcome W R) → State W → Outcome W R
-  target (Ok f) calls s = calls f s
-  target (Err kind) calls s = Ended (end.Trap kind) s
+  abbrev pub target : Option (Result ℕ TrapKind) → (ℕ → State W → Outcome W R) → State W → Outcome W R
+  target (Some (Ok f)) calls s = calls f s
+  target (Some (Err kind)) calls s = Ended (end.Trap kind) s
+  target None calls s = Stuck
 
   -- the pages are paid once it is known that the memory may grow
   abbrev pub pay_pages : Bool → (pages : ℕ) → (grown : State W) → State W → Outcome W R
@@ -253,22 +281,29 @@ same_kinds [] (k ∷ ks) = false
 same_kinds (j ∷ js) [] = false
 same_kinds (j ∷ js) (k ∷ ks) = same_kind j k && same_kinds js ks
 
-abbrev pub has_type : Option FunctionInstance → Option FuncType → Bool
-has_type (Some (Own kind locals body)) (Some wanted) = same_kinds kind.params wanted.params && same_kinds kind.results wanted.results
-has_type (Some (Given kind number)) (Some wanted) = same_kinds kind.params wanted.params && same_kinds kind.results wanted.results
-has_type function wanted = false
+-- whether the function is of this type
+abbrev pub is_of : FunctionInstance → FuncType → Bool
+is_of (Own kind locals body) wanted = same_kinds kind.params wanted.params && same_kinds kind.results wanted.results
+is_of (Given kind number) wanted = same_kinds kind.params wanted.params && same_kinds kind.results wanted.results
+is_of Missing wanted = false
 
 abbrev pub of_type : Bool → ℕ → Result ℕ TrapKind
 of_type true f = Ok f
 of_type false f = Err trap.WrongType
 
-abbrev pub of_place : Program → (wanted : ℕ) → Option (Option ℕ) → Result ℕ TrapKind
-of_place program wanted (Some (Some f)) = of_type (has_type (slice_get program.functions f) (slice_get program.types wanted)) f
-of_place program wanted (Some None) = Err trap.NoElement
-of_place program wanted None = Err trap.NoElement
+abbrev pub checked : Option FunctionInstance → Option FuncType → ℕ → Option (Result ℕ TrapKind)
+checked (Some function) (Some wanted) f = Some (of_type (is_of function wanted) f)
+checked (Some function) None f = None
+checked None wanted f = None
 
--- the function that the table has at a place, if it is of the type that is named
-abbrev pub element : Program → (wanted at : ℕ) → Result ℕ TrapKind
+abbrev pub of_place : Program → (wanted : ℕ) → Option (Option ℕ) → Option (Result ℕ TrapKind)
+of_place program wanted (Some (Some f)) = checked (slice_get program.functions f) (slice_get program.types wanted) f
+of_place program wanted (Some None) = Some (Err trap.NoElement)
+of_place program wanted None = Some (Err trap.NoElement)
+
+-- The function that the table has at a place, if it is of the type that is named. None: there is no such type, or no
+-- such function.
+abbrev pub element : Program → (wanted at : ℕ) → Option (Result ℕ TrapKind)
 element program wanted at = of_place program wanted (slice_get program.table at)
 
 -- ---- a body, with what a call does as a parameter
@@ -280,18 +315,15 @@ module _ {W R : Type 0} (program : Program) (calls : ℕ → State W → Outcome
   acts (Plain i rest) s = of_effect (effect i s.values) s (starts rest (acts rest))
   acts (Block kind body rest) s = and_then (of_block kind (length (stack_of s)) (starts body (acts body) s)) (starts rest (acts rest))
   acts (Loop kind body rest) s = and_then (turns (suc s.left) (starts body (acts body)) (length (stack_of s)) s) (starts rest (acts rest))
-  acts (If kind one two rest) s =
-      let below = popped (stack_of s) in
-      and_then (of_block kind (length below) (chosen (low (top (stack_of s)) == 0) (starts one (acts one)) (starts two (acts two)) (on_stack s below)))
-      (starts rest (acts rest))
+  acts (If kind one two rest) s = take_one s (λ test t. and_then
+      (of_block kind (length (stack_of t)) (chosen (low test == 0) (starts one (acts one)) (starts two (acts two)) t)) (starts rest (acts rest)))
   acts (Br n rest) s = Branch n s
-  acts (BrIf n rest) s = and_then (jump_unless (low (top (stack_of s)) == 0) n (on_stack s (popped (stack_of s)))) (starts rest (acts rest))
-  acts (BrTable ns n rest) s = Branch (slice_index_or ns (low (top (stack_of s))) n) (on_stack s (popped (stack_of s)))
+  acts (BrIf n rest) s = take_one s (λ test t. and_then (jump_unless (low test == 0) n t) (starts rest (acts rest)))
+  acts (BrTable ns n rest) s = take_one s (λ at t. Branch (slice_index_or ns (low at) n) t)
   acts (Return rest) s = Returned s
   acts (Call f rest) s = and_then (calls f s) (starts rest (acts rest))
-  acts (CallIndirect t rest) s =
-      and_then (target (element program t (low (top (stack_of s)))) calls (on_stack s (popped (stack_of s)))) (starts rest (acts rest))
-  acts (MemoryGrow rest) s = and_then (grow (low (top (stack_of s))) (on_stack s (popped (stack_of s)))) (starts rest (acts rest))
+  acts (CallIndirect wanted rest) s = take_one s (λ at t. and_then (target (element program wanted (low at)) calls t) (starts rest (acts rest)))
+  acts (MemoryGrow rest) s = take_one s (λ pages t. and_then (grow (low pages) t) (starts rest (acts rest)))
 
   abbrev pub does : Expression → State W → Outcome W R
   does code s = starts code (acts code) s
@@ -309,21 +341,31 @@ all_fit [] (n ∷ ns) = false
 all_fit (kind ∷ kinds) [] = false
 all_fit (kind ∷ kinds) (n ∷ ns) = fits kind n && all_fit kinds ns
 
-module _ {W R : Type 0} where
-  -- a call that finds too few operands, or of other kinds, traps; none of a valid module does
-  abbrev pub with_operands : Bool → (State W → Outcome W R) → State W → Outcome W R
-  with_operands true go s = Ended (end.Trap trap.Unreachable) s
-  with_operands false go s = go s
+-- the low bits of a value, as many as its kind has
+abbrev pub mask : ValueKind → ℕ → ℕ
+mask I32 n = n % 2 ^ 32
+mask I64 n = n % 2 ^ 64
 
-  abbrev pub of_reply : (number : ℕ) → (arguments : List ℕ) → (below : List ℕ) → Reply W R → (left : ℕ) → State W → Outcome W R
-  of_reply number arguments below (value n w m) left s =
-      Normal (record s { world = w; left = left; outside = after_call s.outside; values = record s.values { stack = n ∷ below; memory = m } })
-  of_reply number arguments below (nothing w m) left s =
-      Normal (record s { world = w; left = left; outside = after_call s.outside; values = record s.values { stack = below; memory = m } })
-  of_reply number arguments below (exit w m) left s =
+abbrev pub masked : List ValueKind → List ℕ → List ℕ
+masked [] ns = []
+masked (kind ∷ kinds) [] = []
+masked (kind ∷ kinds) (n ∷ ns) = mask kind n ∷ masked kinds ns
+
+abbrev pub gives_none : List ValueKind → Bool
+gives_none [] = true
+gives_none (kind ∷ kinds) = false
+
+module _ {W R : Type 0} where
+  -- A function with a result is answered a value, and one without is answered none.
+  abbrev pub of_reply : (results : List ValueKind) → (number : ℕ) → (arguments : List ℕ) → (below : List ℕ) → Reply W R → (left : ℕ) → State W → Outcome W R
+  of_reply results number arguments below (value n w m) left s =
+      only_if (not (gives_none results)) (Normal (record s { world = w; left = left; outside = after_call s.outside; values = record s.values { stack = n ∷ below; memory = m } }))
+  of_reply results number arguments below (nothing w m) left s =
+      only_if (gives_none results) (Normal (record s { world = w; left = left; outside = after_call s.outside; values = record s.values { stack = below; memory = m } }))
+  of_reply results number arguments below (exit w m) left s =
       Ended end.Exit (record s { world = w; left = left; outside = after_call s.outside; values = record s.values { stack = below; memory = m } })
-  of_reply number arguments below (refused r) left s = InHost number arguments (answer.Refused r) left (record s { outside = after_call s.outside })
-  of_reply number arguments below step_limit left s = InHost number arguments answer.StepLimit left (record s { outside = after_call s.outside })
+  of_reply results number arguments below (refused r) left s = InHost number arguments (answer.Refused r) left (record s { outside = after_call s.outside })
+  of_reply results number arguments below step_limit left s = InHost number arguments answer.StepLimit left (record s { outside = after_call s.outside })
 
   abbrev pub host_supplied : Bool → (number : ℕ) → (arguments : List ℕ) → Outcome W R → State W → Outcome W R
   host_supplied true number arguments go s = InHost number arguments answer.OutOfMemory s.left s
@@ -332,15 +374,15 @@ module _ {W R : Type 0} where
   abbrev pub call_host : HostMeaning W R → FuncType → (number : ℕ) → State W → Outcome W R
   call_host host kind number s =
       let count = length kind.params in
-      let args = arguments count (stack_of s) in
+      let args = masked kind.params (arguments count (stack_of s)) in
       let outcome = host s.world number args s.values.memory s.left in
-      host_supplied (s.outside.call_lacks s.outside.calls) number args (of_reply number args (drop count (stack_of s)) outcome.reply outcome.left s) s
+      host_supplied (s.outside.call_lacks s.outside.calls) number args (of_reply kind.results number args (drop count (stack_of s)) outcome.reply outcome.left s) s
 
   abbrev pub of_function : HostMeaning W R → (own : FuncType → ℕ → Expression → State W → Outcome W R) → Option FunctionInstance → State W → Outcome W R
-  of_function host own (Some (Own kind locals body)) s = own kind locals body s
-  of_function host own (Some (Given kind number)) s = with_operands (not (all_fit kind.params (arguments (length kind.params) (stack_of s)))) (call_host host kind number) s
-  of_function host own (Some Missing) s = Ended (end.Trap trap.Unreachable) s
-  of_function host own None s = Ended (end.Trap trap.Unreachable) s
+  of_function host own (Some (Own kind locals body)) s = only_if (nat_le (length kind.params) (length (stack_of s))) (own kind locals body s)
+  of_function host own (Some (Given kind number)) s = only_if (nat_le (length kind.params) (length (stack_of s))) (call_host host kind number s)
+  of_function host own (Some Missing) s = Stuck
+  of_function host own None s = Stuck
 
   abbrev pub no_frame : FuncType → ℕ → Expression → State W → Outcome W R
   no_frame kind locals body s = Ended end.CallDepth s
@@ -349,14 +391,11 @@ module _ {W R : Type 0} where
   call_own runs kind locals body s =
       of_call (result_of kind.results) s.values.locals (drop (length kind.params) (stack_of s)) (runs body (entered kind locals s))
 
-  abbrev pub in_frame : (Expression → State W → Outcome W R) → FuncType → ℕ → Expression → State W → Outcome W R
-  in_frame runs kind locals body s = with_operands (nat_lt (length (stack_of s)) (length kind.params)) (call_own runs kind locals body) s
-
 module _ {W R : Type 0} (host : HostMeaning W R) (program : Program) where
   -- a call of the function of this number where so many frames are free
   abbrev pub call : (free : ℕ) → ℕ → State W → Outcome W R
   call zero f s = of_function host no_frame (slice_get program.functions f) s
-  call (suc free) f s = of_function host (in_frame (does program (call free))) (slice_get program.functions f) s
+  call (suc free) f s = of_function host (call_own (does program (call free))) (slice_get program.functions f) s
 
   -- a call from outside, for which memory may be wanted as for an instruction
   abbrev pub invoked : (free : ℕ) → ℕ → State W → Outcome W R

@@ -11,7 +11,7 @@ use Rattle.ante_wtree.specs.Trees.{Tree}
 use Rattle.ante_wrun.specs.declared.ends.TrapKind.TheVariants as trap
 use Rattle.ante_wrun.specs.declared.ends.RunEnd.{RunEnd}
 use Rattle.ante_wrun.specs.declared.ends.RunEnd.TheVariants as end
-use Rattle.ante_wrun.specs.Meaning.{Outside, Program, State, Outcome, Normal, Ended, supplied, and_then, result_of, fits, all_fit, invoked}
+use Rattle.ante_wrun.specs.Meaning.{Outside, Program, State, Outcome, Normal, Ended, Stuck, supplied, and_then, result_of, fits, all_fit, invoked}
 use Rattle.ante_wrun.specs.Control.{IsGiven}
 use Rattle.ante_wrun.specs.Runs.{Wanting, Ends, Lacking}
 use Rattle.ante_wrun.specs.Instances.{segments_fit, program_in, first_values, apply_in}
@@ -42,9 +42,8 @@ module _ {W R : Type 0} (host : HostMeaning W R) (program : Program) where
   start_runs None s = Normal s
   start_runs (Some f) s = called_with [] f s
 
-  -- each valid module has an `apply`
   abbrev pub apply_runs : Option ℕ → List ℕ → State W → Outcome W R
-  apply_runs None args s = Ended (end.Trap trap.Unreachable) s
+  apply_runs None args s = Stuck
   apply_runs (Some f) args s = called_with args f s
 
   -- What the start function ends, is ended. What it leaves, `apply` finds.
@@ -65,6 +64,10 @@ RunAnswers stands o (Err e) w left outside = Wanting outside → Lacking stands 
 -- the count of looks, where the stop tells it, rose by those that were made between these
 abbrev pub CountsLooks : (old new : Option ℕ) → (before after : Outside) → Type 0
 CountsLooks old new before after = Rises (after.looks - before.looks) old new
+
+-- the last look asked the run to stop, and told this moment
+abbrev pub AskedAt : {S : Type 0} → (may : S → Option ℕ → S → Type 0) → (at : ℕ) → (new : S) → Type 0
+AskedAt {S} may at new = (old : S) × may old (Some at) new
 
 -- ---- a run that nothing from the outside ends
 

@@ -1,5 +1,5 @@
 -- How runs end, and what is asked of the outside while they last.
-use Rattle.std.specs.Prelude.{◌≡◌, ℕ, ◌<◌, ◌≤◌, true, false, List, [], ◌∷◌, slice_get, Option, Some}
+use Rattle.std.specs.Prelude.{◌≡◌, ℕ, ◌<◌, ◌≤◌, true, false, List, [], ◌∷◌, slice_get, Option, None, Some}
 use Rattle.ante_base.specs.Stops.{Looks}
 use Rattle.ante_wmem.specs.Linear.{LinearMemory}
 use Rattle.ante_wmem.specs.declared.host.HostAnswer.{HostAnswer}
@@ -7,7 +7,7 @@ use Rattle.ante_wmem.specs.declared.host.HostAnswer.TheVariants as answer
 use Rattle.ante_wtree.specs.declared.modules.FuncType.{FuncType}
 use Rattle.ante_wrun.specs.declared.ends.RunEnd.{RunEnd}
 use Rattle.ante_wrun.specs.declared.ends.RunEnd.TheVariants as end
-use Rattle.ante_wrun.specs.Meaning.{Outside, after_look, after_item, after_call, Program, Outcome, Normal, Branch, Returned, Ended, Lacks, InHost, Given, all_fit}
+use Rattle.ante_wrun.specs.Meaning.{Outside, after_look, after_item, after_call, Program, Outcome, Normal, Branch, Returned, Ended, Lacks, InHost, Stuck, Given, all_fit}
 use Rattle.ante_wrun.specs.Control.{IsGiven}
 
 -- ---- the questions so far
@@ -75,6 +75,7 @@ module _ {W R : Type 0} (stands : W → ℕ → List ℕ → LinearMemory → �
   Ends e w left outside (InHost f args answer.StepLimit after s) =
       (e ≡ end.StepLimit) × stands s.world f args s.values.memory s.left answer.StepLimit w × (left ≡ 0) × (s.outside ≡ outside)
   Ends e w left outside (InHost f args answer.OutOfMemory after s) = ⊥
+  Ends e w left outside Stuck = ⊥
 
   -- Memory was wanted: the host and the steps left are as the last instruction done, or the host's own refused call, left them.
   abbrev pub Lacking : W → (left : ℕ) → Outside → Outcome W R → Type 0
@@ -88,8 +89,27 @@ module _ {W R : Type 0} (stands : W → ℕ → List ℕ → LinearMemory → �
   Lacking w left outside (InHost f args answer.Exit after s) = ⊥
   Lacking w left outside (InHost f args (answer.Refused r) after s) = ⊥
   Lacking w left outside (InHost f args answer.StepLimit after s) = ⊥
+  Lacking w left outside Stuck = ⊥
   Lacking w left outside (InHost f args answer.OutOfMemory after s) =
       stands s.world f args s.values.memory s.left answer.OutOfMemory w × (left ≤ s.left) × (s.outside ≡ outside)
+
+-- a run that finds a rule for each of its instructions
+abbrev pub NotStuck : {W R : Type 0} → Outcome W R → Type 0
+NotStuck (Normal s) = Unit {0}
+NotStuck (Branch n s) = Unit {0}
+NotStuck (Returned s) = Unit {0}
+NotStuck (Ended e s) = Unit {0}
+NotStuck (Lacks s) = Unit {0}
+NotStuck (InHost f args a n s) = Unit {0}
+NotStuck Stuck = ⊥
+
+-- no look stops the run, and there is always memory
+abbrev pub Calm : Outside → Type 0
+Calm o = ((n : ℕ) → o.look_answer n ≡ None) × ((n : ℕ) → o.item_lacks n ≡ false) × ((n : ℕ) → o.call_lacks n ≡ false)
+
+-- Of this outcome, which the outside decides, one is calm and isn't stuck.
+abbrev pub Sound : {W R : Type 0} → (Outside → Outcome W R) → Type 0
+Sound o = (outside : Outside) × Calm outside × NotStuck (o outside)
 
 -- ---- what a run needs of its host
 

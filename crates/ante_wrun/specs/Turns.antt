@@ -2,8 +2,9 @@
 use Rattle.std.specs.Prelude.{◌≡◌, ℕ, suc, true, false, Bool, List, Option, None, Some, Result, Ok, Err}
 use Rattle.std.specs.declared.alloc.AllocError.{AllocError}
 use Rattle.ante_wmem.specs.Linear.{LinearMemory}
-use Rattle.ante_wmem.specs.HostCalls.{HostMeaning}
+use Rattle.ante_wmem.specs.HostCalls.{Reply, value, nothing, exit, refused, step_limit, HostMeaning}
 use Rattle.ante_wmem.specs.declared.host.HostAnswer.{HostAnswer}
+use Rattle.ante_wtree.specs.declared.instructions.ValueKind.{ValueKind}
 use Rattle.ante_wrun.specs.declared.ends.RunEnd.{RunEnd}
 use Rattle.ante_wrun.specs.declared.thread.Thread.{Thread}
 use Rattle.ante_wrun.specs.declared.run.Paid.{Paid}
@@ -12,9 +13,17 @@ use Rattle.ante_wrun.specs.declared.run.HostNext.{HostNext}
 use Rattle.ante_wrun.specs.declared.run.HostNext.TheVariants as host_next
 use Rattle.ante_wrun.specs.declared.run.Progress.{Progress}
 use Rattle.ante_wrun.specs.declared.run.Progress.TheVariants as progress
-use Rattle.ante_wrun.specs.Meaning.{Outside, after_call, Program, Outcome, Normal, due}
+use Rattle.ante_wrun.specs.Meaning.{Outside, after_call, Program, Outcome, Normal, gives_none, due}
 use Rattle.ante_wrun.specs.Machine.{state_of, going}
 use Rattle.ante_wrun.specs.Runs.{Wanting, Ends, Lacking}
+
+-- a function with a result is answered a value, and one without is answered none
+abbrev pub Replies : {W R : Type 0} → List ValueKind → Reply W R → Type 0
+Replies results (value n w m) = gives_none results ≡ false
+Replies results (nothing w m) = gives_none results ≡ true
+Replies results (exit w m) = Unit {0}
+Replies results (refused r) = Unit {0}
+Replies results step_limit = Unit {0}
 
 -- a look where one is due
 abbrev pub MayLook : {S : Type 0} → (may : S → Option ℕ → S → Type 0) → Bool → S → Option ℕ → S → Type 0

@@ -1,11 +1,11 @@
 //! What one instruction does to a thread (section 4.4.5).
-ghost use Rattle.std.specs.Prelude.{◌≡◌, ℕ, ◌≤◌, ◌&&◌, ◌==◌, if◌then◌else◌, List, Option, map, length, IfOk, slice_get, slice_index_or};
-ghost use Rattle.std.specs.Option.{option_map, option_copied};
+ghost use Rattle.std.specs.Prelude.{◌≡◌, ℕ, ◌<◌, ◌≤◌, ◌&&◌, ◌==◌, if◌then◌else◌, List, Option, None, Some, map, length, IfOk, slice_get, slice_index_or};
 ghost use Rattle.ante_wtree.specs.Expressions.{put, expression_of};
 ghost use Rattle.ante_wrun.specs.Effects.{low, top, popped};
-ghost use Rattle.ante_wrun.specs.Meaning.{Outside, Program, result_of, same_kind, same_kinds, has_type, element, on_stack, stack_of, grow, target, acts, call};
+ghost use Rattle.ante_wrun.specs.Meaning.{Outside, Program, result_of, same_kind, same_kinds, is_of, element, on_stack, stack_of, grow, target, acts, call};
 ghost use Rattle.ante_wrun.specs.Machine.{state_of, whole, going, after};
-ghost use Rattle.ante_wrun.specs.Control.{instance_of, program_of, own_at, Leads, NotHostCall, GivenAt};
+ghost use Rattle.ante_wrun.specs.Control.{instance_of, program_of, own_at, Leads, NotHostCall, GivenAt, Takes, Leaves};
+ghost use Rattle.ante_wrun.specs.Runs.{NotStuck};
 
 use crate::data::low;
 use crate::ends::TrapKind;
@@ -49,12 +49,6 @@ pub(crate) enum Next<'a> {
     HostCall(&'a FuncType, u32),
 }
 
-fn function_at<'a>(functions: &[Function<'a>], at: u32) -> Option<Function<'a>>
-    ensures { result ≡ slice_get functions.now at }
-{
-    functions.get(at as usize).copied()
-}
-
 fn result_of(kinds: &[ValueKind]) -> Option<ValueKind>
     ensures { result ≡ result_of kinds.now }
 {
@@ -94,27 +88,27 @@ fn same_type(one: &FuncType, two: &FuncType) -> bool
         && same_kinds(one.results.as_slice(), two.results.as_slice())
 }
 
-fn has_type(function: Option<Function<'_>>, wanted: Option<&FuncType>) -> bool
-    ensures { result ≡ has_type (option_map instance_of function.entry) (option_copied wanted.entry) }
+fn is_of(function: Function<'_>, wanted: &FuncType) -> bool
+    ensures { result ≡ is_of (instance_of function.entry) wanted.now }
 {
-    let Some(wanted) = wanted else {
-        return false;
-    };
     match function {
-        Some(Function::Own { kind, .. }) => same_type(kind, wanted),
-        Some(Function::Host { kind, .. }) => same_type(kind, wanted),
-        Some(Function::Missing) | None => false,
+        Function::Own { kind, .. } => same_type(kind, wanted),
+        Function::Host { kind, .. } => same_type(kind, wanted),
+        Function::Missing => false,
     }
 }
 
 /// The function that the table has at a place, if it is of the type that is named.
 fn element(functions: &Functions<'_>, wanted: u32, at: u32) -> Result<u32, TrapKind>
-    ensures { result ≡ element (program_of functions.now) wanted at }
+    requires { element (program_of functions.now) wanted at ≡ None → ⊥ }
+    ensures { element (program_of functions.now) wanted at ≡ Some result }
 {
     match functions.table.get(at as usize).copied() {
         Some(Some(function)) => {
-            let kind = functions.types.get(wanted as usize);
-            if has_type(function_at(functions.all.as_slice(), function), kind) {
+            if is_of(
+                functions.all[function as usize],
+                &functions.types[wanted as usize],
+            ) {
                 Ok(function)
             } else {
                 Err(TrapKind::WrongType)
@@ -132,6 +126,7 @@ fn enter<'a, H: Host>(
     locals: u32,
     body: &'a [Instr],
 ) -> Result<Next<'a>, AllocError>
+    requires { length kind.now.params ≤ length thread.old.state.values.stack }
     ensures own { IfOk result NotHostCall }
     ensures leads { IfOk result (λ next. (program : Program) (w : H) (left last : ℕ) (outside : Outside) →
         Leads H.meaning program
@@ -141,9 +136,6 @@ fn enter<'a, H: Host>(
     let params = kind.params.len();
     if thread.free == 0 {
         return Ok(Next::CallDepth);
-    }
-    if thread.state.values.height() < params {
-        return Ok(Next::Trap(TrapKind::Unreachable));
     }
     let frame = Frame::Call {
         kind: result_of(kind.results.as_slice()),
@@ -166,6 +158,7 @@ pub(crate) fn call_function<'a, H: Host>(
     alloc: Global,
     at: u32,
 ) -> Result<Next<'a>, AllocError>
+    requires { Takes (slice_get (program_of functions.now).functions at) (length thread.old.state.values.stack) }
     ensures given { IfOk result (λ next. GivenAt (program_of functions.now) at next) }
     ensures leads { IfOk result (λ next. (w : H) (left last : ℕ) (outside : Outside) →
         let program = program_of functions.now in
@@ -173,19 +166,13 @@ pub(crate) fn call_function<'a, H: Host>(
         (after H.meaning program thread.old (call H.meaning program thread.old.free at (state_of thread.old.state w left last outside)))
         next thread.new w left last outside) }
 {
-    match function_at(functions.all.as_slice(), at) {
-        Some(Function::Own { kind, locals, body }) => {
-            enter::<H>(thread, alloc, kind, locals, body)
-        }
-        Some(Function::Host { kind, number }) => {
-            if !thread.state.values.holds(kind.params.as_slice()) {
-                return Ok(Next::Trap(TrapKind::Unreachable));
-            }
+    match functions.all[at as usize] {
+        Function::Own { kind, locals, body } => { enter::<H>(thread, alloc, kind, locals, body) }
+        Function::Host { kind, number } => {
             thread.state.values.push(alloc, 0)?;
             Ok(Next::HostCall(kind, number))
         }
-        Some(Function::Missing) => Ok(Next::Trap(TrapKind::Unreachable)),
-        None => Ok(Next::Trap(TrapKind::Unreachable)),
+        Function::Missing => unreachable!(),
     }
 }
 
@@ -195,6 +182,9 @@ fn call_indirect<'a, H: Host>(
     alloc: Global,
     wanted: u32,
 ) -> Result<Next<'a>, AllocError>
+    requires room { 0 < length thread.old.state.values.stack }
+    requires leaves { let stack = thread.old.state.values.stack in
+        Leaves (program_of functions.now) (element (program_of functions.now) wanted (low (top stack))) (length (popped stack)) }
     ensures { IfOk result (λ next. (w : H) (left last : ℕ) (outside : Outside) →
         let program = program_of functions.now in
         let s = state_of thread.old.state w left last outside in
@@ -215,6 +205,7 @@ fn grow<'a, H: Host>(
     alloc: Global,
     left: &mut u64,
 ) -> Result<Next<'a>, AllocError>
+    requires { 0 < length thread.old.state.values.stack }
     ensures falls { left.new ≤ left.old }
     ensures leads { IfOk result (λ next. (program : Program) (w : H) (last : ℕ) (outside : Outside) →
         let s = state_of thread.old.state w left.old last outside in
@@ -257,6 +248,8 @@ pub(crate) fn act<'a, H: Host>(
     instr: &'a Instr,
     left: &mut u64,
 ) -> Result<Next<'a>, AllocError>
+    requires { (w : H) × (last : ℕ) × (outside : Outside) × (let program = program_of functions.now in
+        NotStuck (whole H.meaning program thread.old (acts program (call H.meaning program thread.old.free) (put instr.now (expression_of thread.old.code.now)) (state_of thread.old.state w left.old last outside)))) }
     ensures falls { left.new ≤ left.old }
     ensures leads { IfOk result (λ next. (w : H) (last : ℕ) (outside : Outside) →
         let program = program_of functions.now in

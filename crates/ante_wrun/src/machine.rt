@@ -1,13 +1,13 @@
 //! The public call.
-ghost use Rattle.std.specs.Prelude.{◌≡◌, ℕ, [], reverse, IfOk};
+ghost use Rattle.std.specs.Prelude.{◌≡◌, ℕ, ◌≤◌, [], length, reverse, Ok, IfOk};
 ghost use Rattle.ante_wtree.specs.Trees.{tree_of};
 ghost use Rattle.ante_wvalid.specs.Modules.{IsValid};
 ghost use Rattle.ante_wrun.specs.Meaning.{Outside};
 ghost use Rattle.ante_wrun.specs.Machine.{state_of};
 ghost use Rattle.ante_wrun.specs.Control.{program_of};
-ghost use Rattle.ante_wrun.specs.Runs.{Begins, past, ByEvents, MayCall, MayBelow, IsHosts};
+ghost use Rattle.ante_wrun.specs.Runs.{Begins, past, ByEvents, Sound, MayCall, MayBelow, IsHosts};
 ghost use Rattle.ante_wrun.specs.Instances.{program_in, apply_in};
-ghost use Rattle.ante_wrun.specs.Running.{most_frames, called_with, start_runs, apply_runs, both_run, run_of, RunAnswers, CountsLooks, NeverAsks, EndsSo, undisturbed, AnswersTyped};
+ghost use Rattle.ante_wrun.specs.Running.{most_frames, called_with, start_runs, apply_runs, both_run, run_of, RunAnswers, CountsLooks, NeverAsks, EndsSo, undisturbed, AskedAt, AnswersTyped};
 ghost use Rattle.ante_wrun.specs.Parts.{OnReturn, CallLeads};
 
 use crate::control::Functions;
@@ -66,11 +66,14 @@ fn call_with<'a, H: Host, P: Stop>(
 ) -> Result<Called<H::Refusal>, AllocError>
     requires below { MayBelow H.allowed (program_of functions.now) host.old left.old }
     requires here { IsHosts (program_of functions.now) function → MayCall H.allowed (program_of functions.now) host.old left.old }
+    requires sound { Sound (λ outside. called_with H.meaning (program_of functions.now) args.now function (state_of state host.old left.old last.old outside)) }
     ensures leads { let program = program_of functions.now in
         ByEvents P.may stop.old stop.new (λ events. (outside : Outside) → Begins outside events →
         CallLeads H.stands (called_with H.meaning program args.now function (state_of state host.old left.old last.old outside))
         result host.new left.new last.new (past outside events)) }
     ensures allowed { IfOk result (λ called. OnReturn called (MayBelow H.allowed (program_of functions.now) host.new left.new)) }
+    ensures cut { (at : ℕ) → result ≡ Ok (Called.Ended (RunEnd.Cut at)) → AskedAt P.may at stop.new }
+    ensures falls { left.new ≤ left.old }
 {
     let values = operands(alloc, args)?;
     let mut thread = Thread {
@@ -112,11 +115,14 @@ fn call_start<'a, H: Host, P: Stop>(
 ) -> Result<Called<H::Refusal>, AllocError>
     requires below { MayBelow H.allowed (program_of functions.now) host.old left.old }
     requires here { MayCall H.allowed (program_of functions.now) host.old left.old }
+    requires sound { Sound (λ outside. start_runs H.meaning (program_of functions.now) start (state_of state host.old left.old last.old outside)) }
     ensures leads { let program = program_of functions.now in
         ByEvents P.may stop.old stop.new (λ events. (outside : Outside) → Begins outside events →
         CallLeads H.stands (start_runs H.meaning program start (state_of state host.old left.old last.old outside))
         result host.new left.new last.new (past outside events)) }
     ensures allowed { IfOk result (λ called. OnReturn called (MayBelow H.allowed (program_of functions.now) host.new left.new)) }
+    ensures cut { (at : ℕ) → result ≡ Ok (Called.Ended (RunEnd.Cut at)) → AskedAt P.may at stop.new }
+    ensures falls { left.new ≤ left.old }
 {
     match start {
         Some(function) => call_with(
@@ -149,12 +155,15 @@ fn call_apply<'a, H: Host, P: Stop>(
     requires valid { IsValid (tree_of module.now) }
     requires program { program_of functions.now ≡ program_in (tree_of module.now) }
     requires below { MayBelow H.allowed (program_of functions.now) host.old left.old }
-    ensures { ByEvents P.may stop.old stop.new (λ events. (outside : Outside) → Begins outside events →
+    requires sound { Sound (λ outside. apply_runs H.meaning (program_of functions.now) (apply_in (tree_of module.now)) args.now (state_of state host.old left.old last.old outside)) }
+    ensures cut { (at : ℕ) → result ≡ Ok (RunEnd.Cut at) → AskedAt P.may at stop.new }
+    ensures falls { left.new ≤ left.old }
+    ensures ends { ByEvents P.may stop.old stop.new (λ events. (outside : Outside) → Begins outside events →
         RunAnswers H.stands (apply_runs H.meaning (program_of functions.now) (apply_in (tree_of module.now)) args.now (state_of state host.old left.old last.old outside))
         result host.new left.new (past outside events)) }
 {
     let Some(apply) = apply_index(module) else {
-        return Ok(RunEnd::Trap(TrapKind::Unreachable));
+        unreachable!()
     };
     match call_with(state, functions, alloc, host, stop, left, last, apply, args)? {
         Called::Returned(_) => Ok(RunEnd::Done),
@@ -176,7 +185,12 @@ fn call_both<'a, H: Host, P: Stop>(
     requires valid { IsValid (tree_of module.now) }
     requires program { program_of functions.now ≡ program_in (tree_of module.now) }
     requires allowed { MayCall H.allowed (program_of functions.now) host.old left.old }
-    ensures { ByEvents P.may stop.old stop.new (λ events. (outside : Outside) → Begins outside events →
+    requires answers { AnswersTyped H.allowed H.meaning (program_in (tree_of module.now)) }
+    requires globals { length state.globals.items ≡ length module.now.globals }
+    requires arguments { length args.now ≡ 3 }
+    ensures cut { (at : ℕ) → result ≡ Ok (RunEnd.Cut at) → AskedAt P.may at stop.new }
+    ensures falls { left.new ≤ left.old }
+    ensures ends { ByEvents P.may stop.old stop.new (λ events. (outside : Outside) → Begins outside events →
         RunAnswers H.stands (both_run H.meaning (program_of functions.now) (tree_of module.now) args.now (state_of state host.old left.old left.old outside))
         result host.new left.new (past outside events)) }
 {
@@ -202,7 +216,10 @@ fn run_module<H: Host, P: Stop>(
     requires valid { IsValid (tree_of module.now) }
     requires allowed { MayCall H.allowed (program_in (tree_of module.now)) host.old left.old }
     requires answers { AnswersTyped H.allowed H.meaning (program_in (tree_of module.now)) }
-    ensures { ByEvents P.may stop.old stop.new (λ events. (outside : Outside) → Begins outside events →
+    requires arguments { length args.now ≡ 3 }
+    ensures cut { (at : ℕ) → result ≡ Ok (RunEnd.Cut at) → AskedAt P.may at stop.new }
+    ensures falls { left.new ≤ left.old }
+    ensures ends { ByEvents P.may stop.old stop.new (λ events. (outside : Outside) → Begins outside events →
         RunAnswers H.stands (run_of H.meaning (tree_of module.now) args.now host.old left.old outside) result host.new left.new (past outside events)) }
 {
     let Some(instance) = instantiate(alloc, module)? else {
@@ -242,6 +259,10 @@ impl Machine {
         ensures ends { ByEvents P.may stop.old stop.new (λ events. (outside : Outside) → Begins outside events →
             RunAnswers H.stands (run_of H.meaning (tree_of module.now) args host.old left.old outside) result host.new left.new (past outside events)
             × CountsLooks (P.looks stop.old) (P.looks stop.new) outside (past outside events)) }
+        ensures cut { (at : ℕ) → result ≡ Ok (RunEnd.Cut at) → AskedAt P.may at stop.new }
+        ensures falls { left.new ≤ left.old }
+
+        // Where no look asks the run to stop.
         ensures undisturbed { NeverAsks P.may → IfOk result (λ end. EndsSo H.stands end host.new left.new (run_of H.meaning (tree_of module.now) args host.old left.old undisturbed)) }
     {
         run_module(alloc, module.module(), &args, host, stop, left)

@@ -1,6 +1,6 @@
 //! The plain instructions (sections 4.4.1 to 4.4.4).
-ghost use Rattle.std.specs.Prelude.{◌≡◌, ◌+◌, ◌==◌, List, IfOk, slice_index, slice_set, if◌then◌else◌};
-ghost use Rattle.ante_wrun.specs.Effects.{Effect, Next, gives, effect, top, popped, low, loaded, stored, answers};
+ghost use Rattle.std.specs.Prelude.{◌≡◌, ◌<◌, ◌≤◌, true, length, None, IfOk};
+ghost use Rattle.ante_wrun.specs.Effects.{gives, operands, finds, done, popped};
 ghost use Rattle.ante_wrun.specs.Machine.{values_of, Does};
 
 use crate::data::{Data, extended, load_width, low, store_width, trap_of};
@@ -14,22 +14,6 @@ use std::alloc::{AllocError, Global};
 /// Why a plain instruction has no answer, if it hasn't; an `Err` is want of memory.
 type Trapped = Result<Option<TrapKind>, AllocError>;
 
-fn global(globals: &[u64], at: u32) -> u64
-    ensures { result ≡ slice_index globals.now at }
-{
-    let at = at as usize;
-    if at < globals.len() { globals[at] } else { 0 }
-}
-
-fn set_global(globals: &mut [u64], at: u32, value: u64)
-    ensures { globals.new ≡ slice_set globals.old at value }
-{
-    let at = at as usize;
-    if at < globals.len() {
-        globals[at] = value;
-    }
-}
-
 /// Puts an answer on top of the operands.
 fn give(state: &mut Data, alloc: Global, answer: u64) -> Trapped
     ensures effect { IfOk result (λ trap. Does (gives (values_of state.old) state.old.values.stack answer) trap state.old state.new) }
@@ -39,39 +23,34 @@ fn give(state: &mut Data, alloc: Global, answer: u64) -> Trapped
     Ok(None)
 }
 
-/// Puts an answer in place of the topmost operand.
-fn give_for_one(state: &mut Data, alloc: Global, answer: u64) -> Trapped
-    ensures effect { IfOk result (λ trap. Does (gives (values_of state.old) (popped state.old.values.stack) answer) trap state.old state.new) }
-    ensures below { IfOk result (λ trap. state.new.values.below ≡ state.old.values.below) }
-{
-    state.values.put(alloc, answer)?;
-    Ok(None)
-}
-
-fn select(state: &mut Data, alloc: Global) -> Trapped
-    ensures effect { IfOk result (λ trap. Does (effect PlainInstr.Select (values_of state.old)) trap state.old state.new) }
-    ensures below { IfOk result (λ trap. state.new.values.below ≡ state.old.values.below) }
+fn select(state: &mut Data)
+    requires { 2 < length state.old.values.stack }
+    ensures effect { Does (done PlainInstr.Select (values_of state.old)) None state.old state.new }
+    ensures below { state.new.values.below ≡ state.old.values.below }
 {
     let test = low(state.values.pop());
     let two = state.values.pop();
     let one = state.values.top();
     let chosen = if test == 0 { two } else { one };
-    give_for_one(state, alloc, chosen)
+    state.values.put(chosen);
 }
 
-fn load(state: &mut Data, alloc: Global, kind: LoadKind, at: MemArg) -> Trapped
-    ensures effect { IfOk result (λ trap. Does (effect (PlainInstr.Load kind at) (values_of state.old)) trap state.old state.new) }
-    ensures below { IfOk result (λ trap. state.new.values.below ≡ state.old.values.below) }
+fn load(state: &mut Data, kind: LoadKind, at: MemArg) -> Option<TrapKind>
+    requires { 0 < length state.old.values.stack }
+    ensures effect { Does (done (PlainInstr.Load kind at) (values_of state.old)) result state.old state.new }
+    ensures below { state.new.values.below ≡ state.old.values.below }
 {
     let address = low(state.values.top());
-    match state.memory.load(address, at.offset, load_width(kind)) {
-        Ok(bits) => give_for_one(state, alloc, extended(kind, bits)),
-        Err(_) => Ok(Some(TrapKind::OutOfBounds)),
-    }
+    let Ok(bits) = state.memory.load(address, at.offset, load_width(kind)) else {
+        return Some(TrapKind::OutOfBounds);
+    };
+    state.values.put(extended(kind, bits));
+    None
 }
 
 fn store(state: &mut Data, kind: StoreKind, at: MemArg) -> Option<TrapKind>
-    ensures effect { Does (effect (PlainInstr.Store kind at) (values_of state.old)) result state.old state.new }
+    requires { 1 < length state.old.values.stack }
+    ensures effect { Does (done (PlainInstr.Store kind at) (values_of state.old)) result state.old state.new }
     ensures below { state.new.values.below ≡ state.old.values.below }
 {
     let value = state.values.pop();
@@ -85,51 +64,73 @@ fn store(state: &mut Data, kind: StoreKind, at: MemArg) -> Option<TrapKind>
     }
 }
 
-fn binary_32(state: &mut Data, alloc: Global, op: Binary) -> Trapped
-    ensures effect { IfOk result (λ trap. Does (effect (PlainInstr.I32Binary op) (values_of state.old)) trap state.old state.new) }
-    ensures below { IfOk result (λ trap. state.new.values.below ≡ state.old.values.below) }
+fn binary_32(state: &mut Data, op: Binary) -> Option<TrapKind>
+    requires { 1 < length state.old.values.stack }
+    ensures effect { Does (done (PlainInstr.I32Binary op) (values_of state.old)) result state.old state.new }
+    ensures below { state.new.values.below ≡ state.old.values.below }
 {
     let two = low(state.values.pop());
     let one = low(state.values.top());
     match i32_binary(op, one, two) {
-        Ok(answer) => give_for_one(state, alloc, u64::from(answer)),
-        Err(kind) => Ok(Some(trap_of(kind))),
+        Ok(answer) => {
+            state.values.put(u64::from(answer));
+            None
+        }
+        Err(kind) => Some(trap_of(kind)),
     }
 }
 
-fn binary_64(state: &mut Data, alloc: Global, op: Binary) -> Trapped
-    ensures effect { IfOk result (λ trap. Does (effect (PlainInstr.I64Binary op) (values_of state.old)) trap state.old state.new) }
-    ensures below { IfOk result (λ trap. state.new.values.below ≡ state.old.values.below) }
+fn binary_64(state: &mut Data, op: Binary) -> Option<TrapKind>
+    requires { 1 < length state.old.values.stack }
+    ensures effect { Does (done (PlainInstr.I64Binary op) (values_of state.old)) result state.old state.new }
+    ensures below { state.new.values.below ≡ state.old.values.below }
 {
     let two = state.values.pop();
     let one = state.values.top();
     match i64_binary(op, one, two) {
-        Ok(answer) => give_for_one(state, alloc, answer),
-        Err(kind) => Ok(Some(trap_of(kind))),
+        Ok(answer) => {
+            state.values.put(answer);
+            None
+        }
+        Err(kind) => Some(trap_of(kind)),
     }
 }
 
-fn compare_32(state: &mut Data, alloc: Global, op: Compare) -> Trapped
-    ensures effect { IfOk result (λ trap. Does (effect (PlainInstr.I32Compare op) (values_of state.old)) trap state.old state.new) }
-    ensures below { IfOk result (λ trap. state.new.values.below ≡ state.old.values.below) }
+fn compare_32(state: &mut Data, op: Compare)
+    requires { 1 < length state.old.values.stack }
+    ensures effect { Does (done (PlainInstr.I32Compare op) (values_of state.old)) None state.old state.new }
+    ensures below { state.new.values.below ≡ state.old.values.below }
 {
     let two = low(state.values.pop());
     let one = low(state.values.top());
-    give_for_one(state, alloc, u64::from(i32_compare(op, one, two)))
+    state.values.put(u64::from(i32_compare(op, one, two)));
 }
 
-fn compare_64(state: &mut Data, alloc: Global, op: Compare) -> Trapped
-    ensures effect { IfOk result (λ trap. Does (effect (PlainInstr.I64Compare op) (values_of state.old)) trap state.old state.new) }
-    ensures below { IfOk result (λ trap. state.new.values.below ≡ state.old.values.below) }
+fn compare_64(state: &mut Data, op: Compare)
+    requires { 1 < length state.old.values.stack }
+    ensures effect { Does (done (PlainInstr.I64Compare op) (values_of state.old)) None state.old state.new }
+    ensures below { state.new.values.below ≡ state.old.values.below }
 {
     let two = state.values.pop();
     let one = state.values.top();
-    give_for_one(state, alloc, u64::from(i64_compare(op, one, two)))
+    state.values.put(u64::from(i64_compare(op, one, two)));
+}
+
+/// Puts an answer in place of the topmost operand.
+fn give_for_one(state: &mut Data, answer: u64) -> Trapped
+    requires { 0 < length state.old.values.stack }
+    ensures effect { IfOk result (λ trap. Does (gives (values_of state.old) (popped state.old.values.stack) answer) trap state.old state.new) }
+    ensures below { IfOk result (λ trap. state.new.values.below ≡ state.old.values.below) }
+{
+    state.values.put(answer);
+    Ok(None)
 }
 
 /// Executes a plain instruction.
 pub(crate) fn plain(state: &mut Data, alloc: Global, instr: PlainInstr) -> Trapped
-    ensures effect { IfOk result (λ trap. Does (effect instr (values_of state.old)) trap state.old state.new) }
+    requires operands { operands instr ≤ length state.old.values.stack }
+    requires place { finds instr (values_of state.old) ≡ true }
+    ensures effect { IfOk result (λ trap. Does (done instr (values_of state.old)) trap state.old state.new) }
     ensures below { IfOk result (λ trap. state.new.values.below ≡ state.old.values.below) }
 {
     match instr {
@@ -147,22 +148,28 @@ pub(crate) fn plain(state: &mut Data, alloc: Global, instr: PlainInstr) -> Trapp
             state.values.set_local(n, value);
             Ok(None)
         }
-        PlainInstr::I32Binary(op) => binary_32(state, alloc, op),
-        PlainInstr::I64Binary(op) => binary_64(state, alloc, op),
-        PlainInstr::I32Compare(op) => compare_32(state, alloc, op),
-        PlainInstr::I64Compare(op) => compare_64(state, alloc, op),
-        PlainInstr::Load(kind, at) => load(state, alloc, kind, at),
+        PlainInstr::I32Binary(op) => Ok(binary_32(state, op)),
+        PlainInstr::I64Binary(op) => Ok(binary_64(state, op)),
+        PlainInstr::I32Compare(op) => {
+            compare_32(state, op);
+            Ok(None)
+        }
+        PlainInstr::I64Compare(op) => {
+            compare_64(state, op);
+            Ok(None)
+        }
+        PlainInstr::Load(kind, at) => Ok(load(state, kind, at)),
         PlainInstr::Store(kind, at) => Ok(store(state, kind, at)),
         PlainInstr::Unreachable => Ok(Some(TrapKind::Unreachable)),
         PlainInstr::I32Const(n) => give(state, alloc, u64::from(n)),
         PlainInstr::I64Const(n) => give(state, alloc, n),
         PlainInstr::GlobalGet(n) => {
-            let value = global(state.globals.as_slice(), n);
+            let value = state.globals[n as usize];
             give(state, alloc, value)
         }
         PlainInstr::GlobalSet(n) => {
             let value = state.values.pop();
-            set_global(state.globals.as_mut_slice(), n, value);
+            state.globals[n as usize] = value;
             Ok(None)
         }
         PlainInstr::MemorySize => {
@@ -173,31 +180,34 @@ pub(crate) fn plain(state: &mut Data, alloc: Global, instr: PlainInstr) -> Trapp
             let _ = state.values.pop();
             Ok(None)
         }
-        PlainInstr::Select => select(state, alloc),
+        PlainInstr::Select => {
+            select(state);
+            Ok(None)
+        }
         PlainInstr::Nop => Ok(None),
         PlainInstr::I32Eqz => {
             let operand = low(state.values.top());
-            give_for_one(state, alloc, u64::from(operand == 0))
+            give_for_one(state, u64::from(operand == 0))
         }
         PlainInstr::I64Eqz => {
             let operand = state.values.top();
-            give_for_one(state, alloc, u64::from(operand == 0))
+            give_for_one(state, u64::from(operand == 0))
         }
         PlainInstr::I32Unary(op) => {
             let operand = low(state.values.top());
-            give_for_one(state, alloc, u64::from(i32_unary(op, operand)))
+            give_for_one(state, u64::from(i32_unary(op, operand)))
         }
         PlainInstr::I64Unary(op) => {
             let operand = state.values.top();
-            give_for_one(state, alloc, i64_unary(op, operand))
+            give_for_one(state, i64_unary(op, operand))
         }
         PlainInstr::I64ExtendI32S => {
             let operand = low(state.values.top());
-            give_for_one(state, alloc, extended(LoadKind::I64S32, u64::from(operand)))
+            give_for_one(state, extended(LoadKind::I64S32, u64::from(operand)))
         }
         PlainInstr::I32WrapI64 | PlainInstr::I64ExtendI32U => {
             let operand = low(state.values.top());
-            give_for_one(state, alloc, u64::from(operand))
+            give_for_one(state, u64::from(operand))
         }
     }
 }

@@ -3,11 +3,12 @@ ghost use Rattle.std.specs.Prelude.{◌≡◌, ℕ, suc, ◌<◌, ◌≤◌, Lis
 ghost use Rattle.ante_base.specs.Stops.{Looks};
 ghost use Rattle.ante_wmem.specs.HostCalls.{StaysAllowed};
 ghost use Rattle.ante_wrun.specs.Effects.{popped};
-ghost use Rattle.ante_wrun.specs.Meaning.{Outside, Program, invoked, round, due, arguments, on_stack, call_host};
+ghost use Rattle.ante_wrun.specs.Meaning.{Outside, Program, invoked, round, due, arguments, masked, on_stack, call_host};
 ghost use Rattle.ante_wrun.specs.Machine.{state_of, going, after};
 ghost use Rattle.ante_wrun.specs.Control.{program_of};
-ghost use Rattle.ante_wrun.specs.Runs.{Begins, past, ByEvents, MayCall, MayBelow, IsHosts};
-ghost use Rattle.ante_wrun.specs.Turns.{MayLook, look_of, Pays, HostLeads, TurnLeads, RunLeads};
+ghost use Rattle.ante_wrun.specs.Runs.{Begins, past, ByEvents, Sound, MayCall, MayBelow, IsHosts};
+ghost use Rattle.ante_wrun.specs.Turns.{Replies, MayLook, look_of, Pays, HostLeads, TurnLeads, RunLeads};
+ghost use Rattle.ante_wrun.specs.Running.{AskedAt};
 
 use crate::control::{Functions, Next, act, call_function};
 use crate::ends::RunEnd;
@@ -88,15 +89,18 @@ fn host_call<'a, H: Host>(
     left: &mut u64,
 ) -> HostNext<H::Refusal>
     requires room { length kind.now.params < length thread.old.state.values.stack }
-    requires allowed { H.allowed host.old number (arguments (length kind.now.params) (popped thread.old.state.values.stack)) left.old }
+    requires allowed { H.allowed host.old number (masked kind.now.params (arguments (length kind.now.params) (popped thread.old.state.values.stack))) left.old }
+    requires replies { Replies kind.now.results (H.meaning host.old number (masked kind.now.params (arguments (length kind.now.params) (popped thread.old.state.values.stack))) thread.old.state.memory left.old).reply }
     ensures leads { (program : Program) (last : ℕ) (outside : Outside) →
         let s = on_stack (state_of thread.old.state host.old left.old last outside) (popped thread.old.state.values.stack) in
         HostLeads H.meaning H.stands program (after H.meaning program thread.old (call_host H.meaning kind.now number s)) result thread.new host.new left.new last outside }
     ensures after { StaysAllowed H.allowed host.old left.old host.new left.new }
     ensures falls { left.new ≤ left.old }
     ensures early { result ≡ HostNext.Ended RunEnd.Done → ⊥ }
+    ensures uncut { (at : ℕ) → result ≡ HostNext.Ended (RunEnd.Cut at) → ⊥ }
 {
     let count = kind.params.len();
+    thread.state.values.mask(kind.params.as_slice());
     let args = thread.state.values.arguments(count);
     match host.call(HostFn(number), args, &mut thread.state.memory, left) {
         HostAnswer::Value(answer) => {
@@ -127,15 +131,19 @@ fn turn<'a, H: Host, P: Stop>(
     left: &mut u64,
     last: &mut u64,
 ) -> Result<Progress<H::Refusal>, AllocError>
-    requires { MayBelow H.allowed (program_of functions.now) host.old left.old }
+    requires below { MayBelow H.allowed (program_of functions.now) host.old left.old }
+    requires sound { Sound (λ outside. going H.meaning (program_of functions.now) thread.old (state_of thread.old.state host.old left.old last.old outside)) }
     ensures leads { let program = program_of functions.now in
         ByEvents P.may stop.old stop.new (λ events. (outside : Outside) → Begins outside events →
         TurnLeads H.meaning H.stands program (going H.meaning program thread.old (state_of thread.old.state host.old left.old last.old outside))
         result thread.new host.new left.new last.new (past outside events)) }
     ensures falls { result ≡ Ok Progress.Go → left.new < left.old }
     ensures allowed { result ≡ Ok Progress.Go → MayBelow H.allowed (program_of functions.now) host.new left.new }
+    ensures sound { result ≡ Ok Progress.Go → Sound (λ outside. going H.meaning (program_of functions.now) thread.new (state_of thread.new.state host.new left.new last.new outside)) }
     ensures over { result ≡ Ok Progress.Over → MayBelow H.allowed (program_of functions.now) host.new left.new }
     ensures early { result ≡ Ok (Progress.Ended RunEnd.Done) → ⊥ }
+    ensures cut { (at : ℕ) → result ≡ Ok (Progress.Ended (RunEnd.Cut at)) → AskedAt P.may at stop.new }
+    ensures sinks { left.new ≤ left.old }
 {
     let instr = match next_instr::<H>(thread) {
         Some(instr) => instr,
@@ -173,13 +181,16 @@ fn run_thread<'a, H: Host, P: Stop>(
     left: &mut u64,
     last: &mut u64,
 ) -> Result<Option<RunEnd<H::Refusal>>, AllocError>
-    requires { MayBelow H.allowed (program_of functions.now) host.old left.old }
+    requires below { MayBelow H.allowed (program_of functions.now) host.old left.old }
+    requires sound { Sound (λ outside. going H.meaning (program_of functions.now) thread.old (state_of thread.old.state host.old left.old last.old outside)) }
     ensures leads { let program = program_of functions.now in
         ByEvents P.may stop.old stop.new (λ events. (outside : Outside) → Begins outside events →
         RunLeads H.stands (going H.meaning program thread.old (state_of thread.old.state host.old left.old last.old outside))
         result thread.new host.new left.new last.new (past outside events)) }
     ensures allowed { result ≡ Ok None → MayBelow H.allowed (program_of functions.now) host.new left.new }
     ensures early { result ≡ Ok (Some RunEnd.Done) → ⊥ }
+    ensures cut { (at : ℕ) → result ≡ Ok (Some (RunEnd.Cut at)) → AskedAt P.may at stop.new }
+    ensures sinks { left.new ≤ left.old }
 {
     'turns: loop {
         match turn(thread, functions, alloc, host, stop, left, last) {
@@ -204,6 +215,7 @@ pub(crate) fn invoke<'a, H: Host, P: Stop>(
 ) -> Result<Option<RunEnd<H::Refusal>>, AllocError>
     requires idle { (length thread.old.code.now ≡ 0) × (thread.old.frames ≡ []) }
     requires below { MayBelow H.allowed (program_of functions.now) host.old left.old }
+    requires sound { Sound (λ outside. invoked H.meaning (program_of functions.now) thread.old.free function (state_of thread.old.state host.old left.old last.old outside)) }
     requires here { IsHosts (program_of functions.now) function → MayCall H.allowed (program_of functions.now) host.old left.old }
     ensures leads { let program = program_of functions.now in
         ByEvents P.may stop.old stop.new (λ events. (outside : Outside) → Begins outside events →
@@ -211,6 +223,8 @@ pub(crate) fn invoke<'a, H: Host, P: Stop>(
         result thread.new host.new left.new last.new (past outside events)) }
     ensures allowed { result ≡ Ok None → MayBelow H.allowed (program_of functions.now) host.new left.new }
     ensures early { result ≡ Ok (Some RunEnd.Done) → ⊥ }
+    ensures cut { (at : ℕ) → result ≡ Ok (Some (RunEnd.Cut at)) → AskedAt P.may at stop.new }
+    ensures sinks { left.new ≤ left.old }
 {
     match call_function::<H>(thread, functions, alloc, function) {
         Ok(Next::Go) => run_thread(thread, functions, alloc, host, stop, left, last),

@@ -3,18 +3,13 @@ ghost use Rattle.std.specs.Prelude.{◌≡◌};
 ghost use Rattle.std.proofs.Common.{arith};
 ghost use Rattle.ante_wmem.specs.HostCalls.{refused};
 
-use crate::control::{Function, Functions};
-use crate::data::Data;
-use crate::ends::RunEnd;
-use crate::run::invoke;
-use crate::thread::Thread;
-use crate::values::ValueStack;
+use crate::{Machine, RunEnd};
 use ante_base::{AtLook, NeverStop, Stop};
-use ante_pack::Seq;
-use ante_stack::Stack;
+use ante_pack::{Bytes, Seq};
 use ante_wmem::{Host, HostAnswer, HostFn, Memory};
 use ante_wnum::Binary;
-use ante_wtree::{FuncType, Instr};
+use ante_wtree::{Code, Export, ExportKind, FuncType, Instr, Module, ValueKind};
+use ante_wvalid::validate;
 use std::alloc::Global;
 use std::test::Fail;
 
@@ -44,73 +39,75 @@ impl Host for Nobody {
     ghost lower = { λ host function arguments left less le holds. tt };
 
     ghost falls = { λ host function arguments memory left. Prim.omega arith };
+
+    ghost keeps = { λ host function arguments memory left holds. tt };
 }
 
-fn kind(alloc: Global) -> FuncType {
-    FuncType {
-        params: Seq::new(alloc),
+fn apply_kind(alloc: Global) -> Result<FuncType, Fail> {
+    let params = vec![in alloc; ValueKind::I64, ValueKind::I64, ValueKind::I64]?;
+    Ok(FuncType {
+        params: Seq::from_vec(params),
         results: Seq::new(alloc),
-    }
+    })
 }
 
-/// Runs the body as a function of one local and tells how it ended and what is left.
-fn run<P: Stop>(
-    alloc: Global,
-    body: &[Instr],
-    stop: &mut P,
-    left: u64,
-) -> Result<(Option<RunEnd<u32>>, u64), Fail> {
-    let kind = kind(alloc);
-    let function = Function::Own {
-        kind: &kind,
-        locals: 1,
+fn apply_export(alloc: Global) -> Result<Export, Fail> {
+    Ok(Export {
+        name: Bytes::from_slice(alloc, b"apply")?,
+        kind: ExportKind::Function,
+        index: 0,
+    })
+}
+
+/// A module whose `apply` has this body, and one i64 as its local 3.
+fn module(alloc: Global, body: Vec<Instr>) -> Result<Module, Fail> {
+    let code = Code {
+        locals: Seq::from_vec(vec![in alloc; ValueKind::I64]?),
         body,
     };
-    let functions = Functions {
-        types: &[],
-        all: vec![in alloc; function]?,
-        table: Vec::new(alloc),
-    };
-    let mut thread = Thread {
-        code: &[],
-        frames: Stack::new(alloc),
-        state: Data {
-            values: ValueStack::new(alloc),
-            globals: Vec::new(alloc),
-            memory: Memory::new(alloc, 0, 0)?,
-        },
-        free: 250,
-    };
-    let mut host = Nobody;
+    Ok(Module {
+        types: Seq::from_vec(vec![in alloc; apply_kind(alloc)?]?),
+        imports: Seq::new(alloc),
+        functions: Seq::from_vec(vec![in alloc; 0]?),
+        table: Seq::new(alloc),
+        memory: Seq::new(alloc),
+        globals: Seq::new(alloc),
+        exports: Seq::from_vec(vec![in alloc; apply_export(alloc)?]?),
+        start: None,
+        elements: Seq::new(alloc),
+        codes: Seq::from_vec(vec![in alloc; code]?),
+        segments: Seq::new(alloc),
+    })
+}
+
+/// Runs the body and tells how it ended and what is left.
+fn run<P: Stop>(
+    alloc: Global,
+    body: Vec<Instr>,
+    stop: &mut P,
+    left: u64,
+) -> Result<(RunEnd<u32>, u64), Fail> {
+    let module = module(alloc, body)?;
+    let valid = validate(alloc, module)?;
     let mut left = left;
-    let mut last = left;
-    let end = invoke(
-        &mut thread,
-        &functions,
-        alloc,
-        &mut host,
-        stop,
-        &mut left,
-        &mut last,
-        0,
-    )?;
+    let end = Machine::new().run(alloc, &valid, [1, 2, 3], &mut Nobody, stop, &mut left)?;
     Ok((end, left))
 }
 
 /// The turns of a loop: 1 + 3 + 7 * turns steps, and one for each `nop`.
 fn counting(alloc: Global, turns: u64, nops: usize) -> Result<Vec<Instr>, Fail> {
     let turn = vec![in alloc;
-        Instr::LocalGet(0),
+        Instr::LocalGet(3),
         Instr::I64Const(1),
         Instr::I64Binary(Binary::Sub),
-        Instr::LocalTee(0),
+        Instr::LocalTee(3),
         Instr::I64Eqz,
         Instr::I32Eqz,
         Instr::BrIf(0),
     ]?;
     let mut body = vec![in alloc;
         Instr::I64Const(turns),
-        Instr::LocalSet(0),
+        Instr::LocalSet(3),
         Instr::Loop(None, turn),
     ]?;
     for _ in 0..nops {
@@ -123,8 +120,8 @@ fn counting(alloc: Global, turns: u64, nops: usize) -> Result<Vec<Instr>, Fail> 
 fn a_loop_takes_its_steps(rt: HostRuntime) -> Result<(), Fail> {
     let alloc = rt.alloc();
     let body = counting(alloc, 1_428_570, 6)?;
-    let (end, left) = run(alloc, body.as_slice(), &mut NeverStop, 9_999_999)?;
-    assert!(rt; matches!(end, None));
+    let (end, left) = run(alloc, body, &mut NeverStop, 9_999_999)?;
+    assert!(rt; matches!(end, RunEnd::Done));
     assert_eq!(rt; left, 0);
     Ok(())
 }
@@ -133,8 +130,8 @@ fn a_loop_takes_its_steps(rt: HostRuntime) -> Result<(), Fail> {
 fn a_loop_with_one_more(rt: HostRuntime) -> Result<(), Fail> {
     let alloc = rt.alloc();
     let body = counting(alloc, 1_428_570, 7)?;
-    let (end, left) = run(alloc, body.as_slice(), &mut NeverStop, 9_999_999)?;
-    assert!(rt; matches!(end, Some(RunEnd::StepLimit)));
+    let (end, left) = run(alloc, body, &mut NeverStop, 9_999_999)?;
+    assert!(rt; matches!(end, RunEnd::StepLimit));
     assert_eq!(rt; left, 0);
     Ok(())
 }
@@ -143,8 +140,8 @@ fn a_loop_with_one_more(rt: HostRuntime) -> Result<(), Fail> {
 fn a_look_cuts(rt: HostRuntime) -> Result<(), Fail> {
     let alloc = rt.alloc();
     let body = vec![in alloc; Instr::Loop(None, vec![in alloc; Instr::Br(0)]?)]?;
-    let (end, left) = run(alloc, body.as_slice(), &mut AtLook::new(1, 9), 3_000)?;
-    assert!(rt; matches!(end, Some(RunEnd::Cut { at: 9 })));
+    let (end, left) = run(alloc, body, &mut AtLook::new(1, 9), 3_000)?;
+    assert!(rt; matches!(end, RunEnd::Cut { at: 9 }));
     assert_eq!(rt; left, 1_024);
     Ok(())
 }
@@ -152,9 +149,14 @@ fn a_look_cuts(rt: HostRuntime) -> Result<(), Fail> {
 #[test]
 fn calls_without_end(rt: HostRuntime) -> Result<(), Fail> {
     let alloc = rt.alloc();
-    let body = vec![in alloc; Instr::Nop, Instr::Call(0)]?;
-    let (end, left) = run(alloc, body.as_slice(), &mut NeverStop, 10_000)?;
-    assert!(rt; matches!(end, Some(RunEnd::CallDepth)));
-    assert_eq!(rt; left, 9_500);
+    let body = vec![in alloc;
+        Instr::LocalGet(0),
+        Instr::LocalGet(1),
+        Instr::LocalGet(2),
+        Instr::Call(0),
+    ]?;
+    let (end, left) = run(alloc, body, &mut NeverStop, 10_000)?;
+    assert!(rt; matches!(end, RunEnd::CallDepth));
+    assert_eq!(rt; left, 9_000);
     Ok(())
 }

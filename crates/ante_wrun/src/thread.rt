@@ -1,8 +1,9 @@
 //! The open bodies of a run, on one explicit stack.
-ghost use Rattle.std.specs.Prelude.{◌≡◌, ℕ, ◌∷◌, [], Option};
+ghost use Rattle.std.specs.Prelude.{◌≡◌, ℕ, ◌∷◌, [], length, Option};
 ghost use Rattle.ante_wtree.specs.Expressions.{put, expression_of};
 ghost use Rattle.ante_wrun.specs.Meaning.{Outside, Program, Normal, Branch, Returned, does, call};
-ghost use Rattle.ante_wrun.specs.Machine.{state_of, under, whole, going, Finds};
+ghost use Rattle.ante_wrun.specs.Machine.{state_of, under, whole, going, Finds, Reaches, Returns, Gives};
+ghost use Rattle.ante_wrun.specs.Runs.{NotStuck};
 
 use crate::data::Data;
 use ante_stack::Stack;
@@ -44,6 +45,7 @@ pub(crate) struct Thread<'a> {
 
 /// Goes on after a body that ended, whose frame was taken off.
 pub(crate) fn resume<'a, H: Host>(thread: &mut Thread<'a>, frame: Frame<'a>)
+    requires { Gives frame (length thread.old.state.values.stack) }
     ensures whole { (program : Program) (w : H) (left last : ℕ) (outside : Outside) →
         under H.meaning program thread.old.free thread.old.state.values.below (frame.entry ∷ thread.old.frames) (Normal (state_of thread.old.state w left last outside))
         ≡ going H.meaning program thread.new (state_of thread.new.state w left last outside) }
@@ -68,6 +70,8 @@ pub(crate) fn resume<'a, H: Host>(thread: &mut Thread<'a>, frame: Frame<'a>)
 
 /// The next instruction, or none where the last body has ended.
 pub(crate) fn next_instr<'a, H: Host>(thread: &mut Thread<'a>) -> Option<&'a Instr>
+    requires { (program : Program) × (w : H) × (left : ℕ) × (last : ℕ) × (outside : Outside) ×
+        NotStuck (going H.meaning program thread.old (state_of thread.old.state w left last outside)) }
     ensures { (program : Program) (w : H) (left last : ℕ) (outside : Outside) →
         Finds H.meaning program (going H.meaning program thread.old (state_of thread.old.state w left last outside)) result thread.new (state_of thread.new.state w left last outside) }
 {
@@ -85,6 +89,7 @@ pub(crate) fn next_instr<'a, H: Host>(thread: &mut Thread<'a>) -> Option<&'a Ins
 
 /// Branches to the label of a depth.
 pub(crate) fn branch<'a, H: Host>(thread: &mut Thread<'a>, depth: u32)
+    requires { Reaches thread.old.frames depth (length thread.old.state.values.stack) }
     ensures { (program : Program) (w : H) (left last : ℕ) (outside : Outside) →
         whole H.meaning program thread.old (Branch depth (state_of thread.old.state w left last outside))
         ≡ going H.meaning program thread.new (state_of thread.new.state w left last outside) }
@@ -124,11 +129,12 @@ pub(crate) fn branch<'a, H: Host>(thread: &mut Thread<'a>, depth: u32)
         }
         out -= 1;
     }
-    thread.code = &[];
+    unreachable!()
 }
 
 /// Returns from the function.
 pub(crate) fn leave<'a, H: Host>(thread: &mut Thread<'a>)
+    requires { Returns thread.old.frames (length thread.old.state.values.stack) }
     ensures { (program : Program) (w : H) (left last : ℕ) (outside : Outside) →
         whole H.meaning program thread.old (Returned (state_of thread.old.state w left last outside))
         ≡ going H.meaning program thread.new (state_of thread.new.state w left last outside) }
@@ -142,5 +148,5 @@ pub(crate) fn leave<'a, H: Host>(thread: &mut Thread<'a>)
             }
         }
     }
-    thread.code = &[];
+    unreachable!()
 }

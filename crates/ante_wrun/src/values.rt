@@ -1,7 +1,7 @@
 //! The locals and operands of all frames in one growing list.
 ghost use Rattle.std.specs.Prelude.{◌≡◌, ◌+◌, ◌*◌, ◌-◌, ◌^◌, ◌<◌, ◌≤◌, List, [], ◌∷◌, ◌++◌, min, length, take, drop, reverse, replicate, slice_index, slice_set, Option, None, Some, OnOk, OnErr};
 ghost use Rattle.ante_wrun.specs.Effects.{top, popped};
-ghost use Rattle.ante_wrun.specs.Meaning.{keep, unwound, arity, arguments, fits, all_fit};
+ghost use Rattle.ante_wrun.specs.Meaning.{keep, unwound, arity, arguments, mask, masked};
 
 use ante_wtree::ValueKind;
 use std::alloc::{AllocError, Global};
@@ -70,45 +70,28 @@ impl ValueStack {
         Ok(())
     }
 
-    /// The topmost operand, or 0 where there is none.
+    /// The topmost operand.
     pub(crate) fn top(&self) -> u64
+        requires { 0 < length self.now.stack }
         ensures { result ≡ top self.now.stack }
     {
-        let (_, operands) = self.items.as_slice().split_at(self.floor);
-        match operands.last() {
-            Some(value) => *value,
-            None => 0,
-        }
+        self.items[self.items.as_slice().len() - 1]
     }
 
-    /// Takes the topmost operand off, or answers 0 where there is none.
+    /// Takes the topmost operand off.
     pub(crate) fn pop(&mut self) -> u64
+        requires { 0 < length self.old.stack }
         ensures value { result ≡ top self.old.stack }
         ensures rest { self.new ≡ record self.old { stack = popped self.old.stack } }
     {
-        if self.items.as_slice().len() == self.floor {
-            return 0;
-        }
         match self.items.pop() {
             Some(value) => value,
-            None => 0,
+            None => unreachable!(),
         }
-    }
-
-    /// Puts a value in place of the topmost operand, or on top where there is none.
-    pub(crate) fn put(&mut self, _alloc: Global, value: u64) -> Result<(), AllocError>
-        ensures { OnOk result (self.new ≡ record self.old { stack = value ∷ popped self.old.stack }) }
-    {
-        if self.height() > 0 {
-            self.replace(value);
-            return Ok(());
-        }
-        self.items.push(value)?;
-        Ok(())
     }
 
     /// Puts a value in place of the topmost operand.
-    fn replace(&mut self, value: u64)
+    pub(crate) fn put(&mut self, value: u64)
         requires { 0 < length self.old.stack }
         ensures { self.new ≡ record self.old { stack = value ∷ popped self.old.stack } }
     {
@@ -116,49 +99,40 @@ impl ValueStack {
         self.items[last] = value;
     }
 
-    /// The local, or 0 where there is none of this number.
     pub(crate) fn local(&self, at: u32) -> u64
+        requires { at < length self.now.locals }
         ensures { result ≡ slice_index self.now.locals at }
     {
-        let (front, _) = self.items.as_slice().split_at(self.floor);
-        let (_, locals) = front.split_at(self.base);
-        let at = at as usize;
-        if at < locals.len() { locals[at] } else { 0 }
+        self.items[self.base + at as usize]
     }
 
     pub(crate) fn set_local(&mut self, at: u32, value: u64)
+        requires { at < length self.old.locals }
         ensures { self.new ≡ record self.old { locals = slice_set self.old.locals at value } }
     {
-        let at = at as usize;
-        if at < self.floor - self.base {
-            self.items[self.base + at] = value;
-        }
+        self.items[self.base + at as usize] = value;
     }
 
-    /// Leaves the lowest operands, so many as there are at the most.
+    /// Leaves the lowest operands.
     pub(crate) fn keep(&mut self, height: usize)
+        requires { height ≤ length self.old.stack }
         ensures { self.new ≡ record self.old { stack = keep height self.old.stack } }
     {
-        let now = self.height();
-        if now > height {
-            self.items.truncate(self.floor + height);
-        }
+        self.items.truncate(self.floor + height);
     }
 
     /// Leaves the results of a block on the lowest operands.
     pub(crate) fn unwind(&mut self, kind: Option<ValueKind>, height: usize)
+        requires { height + arity kind ≤ length self.old.stack }
         ensures { self.new ≡ record self.old { stack = unwound kind height self.old.stack } }
     {
         if kind.is_none() {
             return self.keep(height);
         }
-        let now = self.height();
-        if now > height {
-            let answer = self.top();
-            let at = self.floor + height;
-            self.items[at] = answer;
-            self.items.truncate(at + 1);
-        }
+        let answer = self.top();
+        let at = self.floor + height;
+        self.items[at] = answer;
+        self.items.truncate(at + 1);
     }
 
     /// Begins a frame: so many operands are its first locals, and zeros are the others.
@@ -185,6 +159,7 @@ impl ValueStack {
     /// Ends a frame: the values below it are those of the frame whose locals begin there and are so many, and the results
     /// go on top of its operands.
     pub(crate) fn leave(&mut self, kind: Option<ValueKind>, base: usize, locals: usize)
+        requires { arity kind ≤ length self.old.stack }
         ensures { self.new ≡ record {
           below = take base self.old.below;
           locals = take locals (drop base self.old.below);
@@ -192,8 +167,8 @@ impl ValueStack {
         } }
     {
         let end = self.base;
-        let answer = self.top();
-        if kind.is_some() && self.height() > 0 {
+        if kind.is_some() {
+            let answer = self.top();
             self.items[end] = answer;
             self.items.truncate(end + 1);
             self.base = at_most(base, end);
@@ -205,18 +180,16 @@ impl ValueStack {
         self.floor = self.base + at_most(locals, end - self.base);
     }
 
-    /// Whether the topmost operands are of these kinds.
-    pub(crate) fn holds(&self, kinds: &[ValueKind]) -> bool
-        ensures { result ≡ all_fit kinds.now (arguments (length kinds.now) self.now.stack) }
+    /// Masks the arguments of a call, which lie below the topmost operand, to their kinds.
+    pub(crate) fn mask(&mut self, kinds: &[ValueKind])
+        requires { length kinds.now < length self.old.stack }
+        ensures arguments { arguments (length kinds.now) (popped self.new.stack) ≡ masked kinds.now (arguments (length kinds.now) (popped self.old.stack)) }
+        ensures rest { drop (length kinds.now) (popped self.new.stack) ≡ drop (length kinds.now) (popped self.old.stack) }
+        ensures length { length self.new.stack ≡ length self.old.stack }
+        ensures frames { (self.new.below ≡ self.old.below) × (self.new.locals ≡ self.old.locals) }
     {
-        if self.height() < kinds.len() {
-            return false;
-        }
-        let (_, arguments) = self
-            .items
-            .as_slice()
-            .split_at(self.items.as_slice().len() - kinds.len());
-        all_fit(kinds, arguments)
+        let first = self.items.as_slice().len() - 1 - kinds.len();
+        mask_from(&mut self.items, first, kinds);
     }
 
     /// The arguments of a call, below the topmost operand.
@@ -244,7 +217,7 @@ impl ValueStack {
     {
         let height = self.height();
         self.keep(height - count);
-        self.replace(value);
+        self.put(value);
     }
 }
 
@@ -254,28 +227,25 @@ fn at_most(value: usize, most: usize) -> usize
     if value > most { most } else { value }
 }
 
-fn fits(kind: ValueKind, value: u64) -> bool
-    ensures { result ≡ fits kind value }
+fn mask(kind: ValueKind, value: u64) -> u64
+    ensures { result ≡ mask kind value }
 {
     match kind {
-        ValueKind::I32 => value < 1 << 32,
-        ValueKind::I64 => true,
+        ValueKind::I32 => value % (1 << 32),
+        ValueKind::I64 => value,
     }
 }
 
-fn all_fit(kinds: &[ValueKind], values: &[u64]) -> bool
-    ensures { result ≡ all_fit kinds.now values.now }
+/// Masks as many values as there are kinds, from a place on.
+fn mask_from(values: &mut Vec<u64>, first: usize, kinds: &[ValueKind])
+    requires { first + length kinds.now ≤ length values.old.items }
+    ensures values { values.new.items ≡ take first values.old.items ++ (masked kinds.now (take (length kinds.now) (drop first values.old.items)) ++ drop (length kinds.now) (drop first values.old.items)) }
+    ensures length { length values.new.items ≡ length values.old.items }
 {
-    let (mut kind, mut value) = (kinds, values);
-    'kinds: while let Some((first, kinds)) = kind.split_first() {
-        let Some((number, values)) = value.split_first() else {
-            return false;
-        };
-        if !fits(*first, *number) {
-            return false;
-        }
-        kind = kinds;
-        value = values;
+    let (mut at, mut kind) = (first, kinds);
+    'kinds: while let Some((next, rest)) = kind.split_first() {
+        values[at] = mask(*next, values[at]);
+        at += 1;
+        kind = rest;
     }
-    value.is_empty()
 }

@@ -4,23 +4,28 @@ use Rattle.std.proofs.lemmas.Bool.{eqb-true}
 use Rattle.ante_wtree.specs.Expressions.{expression_of}
 use Rattle.ante_wrun.specs.declared.ends.RunEnd.TheVariants as end
 use Rattle.ante_wrun.specs.declared.thread.Frame.TheVariants as frame
-use Rattle.ante_wrun.specs.Effects.{effect, low, top, popped}
-use Rattle.ante_wrun.specs.Meaning.{Branch, and_then, of_effect, jump_unless, on_stack, acts, does, call}
-use Rattle.ante_wrun.specs.Machine.{state_of, values_of, rest_of, under, whole}
+use Rattle.ante_wrun.specs.Effects.{done, low, top, popped}
+use Rattle.ante_wrun.specs.Meaning.{Branch, and_then, of_effect, jump_unless, element, on_stack, acts, does, call}
+use Rattle.ante_wrun.specs.Machine.{state_of, values_of, rest_of, under, whole, Reaches}
 use Rattle.ante_wrun.specs.Control.{program_of, Leads}
 use Rattle.ante_wrun.proofs.Bodies.{again}
-use Rattle.ante_wrun.proofs.Calls.{if_ok, ended, traps, conditional}
+use Rattle.ante_wrun.proofs.Calls.{if_ok, ended, goes_on, traps, conditional}
+use Rattle.ante_wrun.specs.Runs.{NotStuck}
+use Rattle.ante_wrun.proofs.Rules.{first_runs, has_operands, has_place, effect_is, reaches, returns, callable, leaves, alone, begins, operand, If_is, BrIf_is, BrTable_is, CallIndirect_is, MemoryGrow_is}
 use Rattle.ante_wrun.proofs.control.act.Goals as goal
 
 pub returns-in-Some-clause-leads : goal.returns-in-Some-clause-leads
 returns-in-Some-clause-leads g c = λ w last outside.
     let P = program_of c.args.functions.now in
     let t = c.args.thread.now in
+    let q = c.requires in
+    let s0 = state_of t.state q.0 c.args.left.now q.1 q.2 in
+    let so = effect_is c.in-Plain.op (values_of t.state) s0 _ (alone g.H.Host.meaning P t _ (begins g.H.Host.meaning P t _ _ s0 (c.in-Plain.ensures (expression_of t.code.now)) q.3)) in
     let s = state_of t.state w c.args.left.now last outside in
     let m = under g.H.Host.meaning P t.free t.state.values.below in
     let e = ap (λ x. whole g.H.Host.meaning P t (acts P (call g.H.Host.meaning P t.free) x s)) (c.in-Plain.ensures (expression_of t.code.now)) in (
       s,
-      e ∙ ap (λ x. m t.frames (of_effect x s (rest_of g.H.Host.meaning P t))) (traps (effect c.in-Plain.op (values_of t.state)) c.in_ok-plain-in-Plain.field-0 c.in-Some.kind t.state c.plain.new.state c.in_ok-plain-in-Plain.ensures.effect c.in-Some.is)
+      e ∙ ap (λ x. m t.frames (of_effect x s (rest_of g.H.Host.meaning P t))) (so ∙ traps (done c.in-Plain.op (values_of t.state)) c.in_ok-plain-in-Plain.field-0 c.in-Some.kind t.state c.plain.new.state c.in_ok-plain-in-Plain.ensures.effect c.in-Some.is)
           ∙ ended g.H.Host.meaning P t.free t.state.values.below t.frames (end.Trap c.in-Some.kind) s,
       refl,
       refl,
@@ -52,23 +57,29 @@ pub returns-in_ok-push-in-If-clause-leads : goal.returns-in_ok-push-in-If-clause
 returns-in_ok-push-in-If-clause-leads g c = λ w last outside.
     let P = program_of c.args.functions.now in
     let t = c.args.thread.now in
+    let q = c.requires in
+    let s0 = state_of t.state q.0 c.args.left.now q.1 q.2 in
+    let lt = operand g.H.Host.meaning P t _ _ s0 _ (c.in-If.ensures (expression_of t.code.now)) refl q.3 in
     let s = state_of t.state w c.args.left.now last outside in
     let m = under g.H.Host.meaning P t.free t.state.values.below in
     let e = ap (λ x. whole g.H.Host.meaning P t (acts P (call g.H.Host.meaning P t.free) x s)) (c.in-If.ensures (expression_of t.code.now)) in
     let n : low (top t.state.values.stack) ≡ c.low-test.result = sym (c.low-test.ensures ∙ ap low c.pop.ensures.value) in
-    e ∙ conditional g.H.Host.meaning P w c.args.left.now last outside t.free t.frames c.push-in-If.new.self t.state c.in-If.kind c.height-height-in-If.result t.code c.in-If.one c.in-If.two c.chosen-thread.result
+    e ∙ ap (whole g.H.Host.meaning P t) (If_is P (call g.H.Host.meaning P t.free) s lt c.in-If.kind (expression_of c.in-If.one.now) (expression_of c.in-If.two.now) (expression_of t.code.now)) ∙ conditional g.H.Host.meaning P w c.args.left.now last outside t.free t.frames c.push-in-If.new.self t.state c.in-If.kind c.height-height-in-If.result t.code c.in-If.one c.in-If.two c.chosen-thread.result
     (low (top t.state.values.stack) == 0) (c.low-test.result == 0) c.pop.new.self (ap (λ k. k == 0) n) c.chosen-thread.ensures c.pop.ensures.rest c.height-height-in-If.ensures c.in_ok-push-in-If.ensures.ok
 
 pub returns-else-low-eq0-clause-leads : goal.returns-else-low-eq0-clause-leads
 returns-else-low-eq0-clause-leads g c = λ w last outside.
     let P = program_of c.args.functions.now in
     let t = c.args.thread.now in
+    let q = c.requires in
+    let s0 = state_of t.state q.0 c.args.left.now q.1 q.2 in
+    let lt = operand g.H.Host.meaning P t _ _ s0 _ (c.in-BrIf.ensures (expression_of t.code.now)) refl q.3 in
     let s = state_of t.state w c.args.left.now last outside in
     let m = under g.H.Host.meaning P t.free t.state.values.below in
     let e = ap (λ x. whole g.H.Host.meaning P t (acts P (call g.H.Host.meaning P t.free) x s)) (c.in-BrIf.ensures (expression_of t.code.now)) in
     let n : low (top t.state.values.stack) ≡ c.low.result = sym (c.low.ensures ∙ ap low c.pop-in-BrIf.ensures.value) in
     let taken : (low (top t.state.values.stack) == 0) ≡ false = ap (λ k. k == 0) n ∙ grind (arith, eqb-true, c.if-low-eq0.false) in
-    e ∙ ap (λ b. whole g.H.Host.meaning P t (and_then (jump_unless b c.in-BrIf.depth (on_stack s (popped t.state.values.stack))) (rest_of g.H.Host.meaning P t))) taken
+    e ∙ ap (whole g.H.Host.meaning P t) (BrIf_is P (call g.H.Host.meaning P t.free) s lt c.in-BrIf.depth (expression_of t.code.now)) ∙ ap (λ b. whole g.H.Host.meaning P t (and_then (jump_unless b c.in-BrIf.depth (on_stack s (popped t.state.values.stack))) (rest_of g.H.Host.meaning P t))) taken
     ∙ ap (λ v. under g.H.Host.meaning P t.free v.below t.frames (Branch c.in-BrIf.depth (state_of (record t.state { values = v }) w c.args.left.now last outside))) (sym c.pop-in-BrIf.ensures.rest)
     ∙ c.branch-thread-in-BrIf.ensures P w c.args.left.now last outside
 
@@ -76,11 +87,14 @@ pub returns-in-BrTable-clause-leads : goal.returns-in-BrTable-clause-leads
 returns-in-BrTable-clause-leads g c = λ w last outside.
     let P = program_of c.args.functions.now in
     let t = c.args.thread.now in
+    let q = c.requires in
+    let s0 = state_of t.state q.0 c.args.left.now q.1 q.2 in
+    let lt = operand g.H.Host.meaning P t _ _ s0 _ (c.in-BrTable.ensures (expression_of t.code.now)) refl q.3 in
     let s = state_of t.state w c.args.left.now last outside in
     let m = under g.H.Host.meaning P t.free t.state.values.below in
     let e = ap (λ x. whole g.H.Host.meaning P t (acts P (call g.H.Host.meaning P t.free) x s)) (c.in-BrTable.ensures (expression_of t.code.now)) in
     let n : low (top t.state.values.stack) ≡ c.low-at.result = sym (c.low-at.ensures ∙ ap low c.pop-in-BrTable.ensures.value) in
-    e ∙ ap (λ k. m t.frames (Branch k (on_stack s (popped t.state.values.stack)))) (ap (λ at. slice_index_or c.in-BrTable.labels.now at c.in-BrTable.last) n ∙ sym c.label-depth.ensures)
+    e ∙ ap (whole g.H.Host.meaning P t) (BrTable_is P (call g.H.Host.meaning P t.free) s lt c.in-BrTable.labels.now c.in-BrTable.last (expression_of t.code.now)) ∙ ap (λ k. m t.frames (Branch k (on_stack s (popped t.state.values.stack)))) (ap (λ at. slice_index_or c.in-BrTable.labels.now at c.in-BrTable.last) n ∙ sym c.label-depth.ensures)
     ∙ ap (λ v. under g.H.Host.meaning P t.free v.below t.frames (Branch c.label-depth.result (state_of (record t.state { values = v }) w c.args.left.now last outside))) (sym c.pop-in-BrTable.ensures.rest)
     ∙ c.branch-thread-in-BrTable.ensures P w c.args.left.now last outside
 
@@ -99,10 +113,13 @@ pub returns-in-CallIndirect-clause-leads : goal.returns-in-CallIndirect-clause-l
 returns-in-CallIndirect-clause-leads g c =
     let P = program_of c.args.functions.now in
     let t = c.args.thread.now in
+    let q = c.requires in
+    let s0 = state_of t.state q.0 c.args.left.now q.1 q.2 in
+    let lt = operand g.H.Host.meaning P t _ _ s0 _ (c.in-CallIndirect.ensures (expression_of t.code.now)) refl q.3 in
     if_ok c.call_indirect.result _ _
     (λ next h w last outside.
     subst (λ o. Leads g.H.Host.meaning P o next c.call_indirect.new.thread w c.args.left.now last outside)
-    (sym (ap (λ x. whole g.H.Host.meaning P t (acts P (call g.H.Host.meaning P t.free) x (state_of t.state w c.args.left.now last outside))) (c.in-CallIndirect.ensures (expression_of t.code.now))))
+    (sym (ap (λ x. whole g.H.Host.meaning P t (acts P (call g.H.Host.meaning P t.free) x (state_of t.state w c.args.left.now last outside))) (c.in-CallIndirect.ensures (expression_of t.code.now)) ∙ ap (whole g.H.Host.meaning P t) (CallIndirect_is P (call g.H.Host.meaning P t.free) (state_of t.state w c.args.left.now last outside) lt c.in-CallIndirect.kind (expression_of t.code.now))))
     (h w c.args.left.now last outside))
     c.call_indirect.ensures
 
@@ -110,9 +127,173 @@ pub returns-in-MemoryGrow-clause-leads : goal.returns-in-MemoryGrow-clause-leads
 returns-in-MemoryGrow-clause-leads g c =
     let P = program_of c.args.functions.now in
     let t = c.args.thread.now in
+    let q = c.requires in
+    let s0 = state_of t.state q.0 c.args.left.now q.1 q.2 in
+    let lt = operand g.H.Host.meaning P t _ _ s0 _ (c.in-MemoryGrow.ensures (expression_of t.code.now)) refl q.3 in
     if_ok c.grow.result _ _
     (λ next h w last outside.
     subst (λ o. Leads g.H.Host.meaning P o next c.grow.new.thread w c.grow.new.left last outside)
-    (sym (ap (λ x. whole g.H.Host.meaning P t (acts P (call g.H.Host.meaning P t.free) x (state_of t.state w c.args.left.now last outside))) (c.in-MemoryGrow.ensures (expression_of t.code.now))))
+    (sym (ap (λ x. whole g.H.Host.meaning P t (acts P (call g.H.Host.meaning P t.free) x (state_of t.state w c.args.left.now last outside))) (c.in-MemoryGrow.ensures (expression_of t.code.now)) ∙ ap (whole g.H.Host.meaning P t) (MemoryGrow_is P (call g.H.Host.meaning P t.free) (state_of t.state w c.args.left.now last outside) lt (expression_of t.code.now))))
     (h P w last outside))
     c.grow.ensures.leads
+
+pub returns-in-None-clause-leads : goal.returns-in-None-clause-leads
+returns-in-None-clause-leads g c = λ w last outside.
+    let P = program_of c.args.functions.now in
+    let t = c.args.thread.now in
+    let q = c.requires in
+    let s0 = state_of t.state q.0 c.args.left.now q.1 q.2 in
+    let is = c.in-Plain.ensures (expression_of t.code.now) in
+    let s = state_of t.state w c.args.left.now last outside in
+    let so = effect_is c.in-Plain.op (values_of t.state) s0 _ (alone g.H.Host.meaning P t _ (begins g.H.Host.meaning P t _ _ s0 is q.3)) in
+    ap (λ x. whole g.H.Host.meaning P t (acts P (call g.H.Host.meaning P t.free) x s)) is
+    ∙ ap (λ x. whole g.H.Host.meaning P t (of_effect x s (rest_of g.H.Host.meaning P t)))
+    (so ∙ goes_on (done c.in-Plain.op (values_of t.state)) c.in_ok-plain-in-Plain.field-0 t.state c.plain.new.state c.in_ok-plain-in-Plain.ensures.effect c.in-None.is)
+    ∙ ap (λ b. under g.H.Host.meaning P t.free b t.frames (rest_of g.H.Host.meaning P t (state_of c.plain.new.state w c.args.left.now last outside))) (sym c.in_ok-plain-in-Plain.ensures.below)
+
+pub returns-then-low-eq0-clause-leads : goal.returns-then-low-eq0-clause-leads
+returns-then-low-eq0-clause-leads g c = λ w last outside.
+    let P = program_of c.args.functions.now in
+    let t = c.args.thread.now in
+    let q = c.requires in
+    let s0 = state_of t.state q.0 c.args.left.now q.1 q.2 in
+    let is = c.in-BrIf.ensures (expression_of t.code.now) in
+    let lt = operand g.H.Host.meaning P t _ _ s0 _ is refl q.3 in
+    let s = state_of t.state w c.args.left.now last outside in
+    let n : low (top t.state.values.stack) ≡ c.low.result = sym (c.low.ensures ∙ ap low c.pop-in-BrIf.ensures.value) in
+    ap (λ x. whole g.H.Host.meaning P t (acts P (call g.H.Host.meaning P t.free) x s)) is
+    ∙ ap (whole g.H.Host.meaning P t) (BrIf_is P (call g.H.Host.meaning P t.free) s lt c.in-BrIf.depth (expression_of t.code.now))
+    ∙ ap (λ k. whole g.H.Host.meaning P t (and_then (jump_unless (k == 0) c.in-BrIf.depth (on_stack s (popped t.state.values.stack))) (rest_of g.H.Host.meaning P t))) (n ∙ c.if-low-eq0.true)
+    ∙ ap (λ v. under g.H.Host.meaning P t.free v.below t.frames (rest_of g.H.Host.meaning P t (state_of (record t.state { values = v }) w c.args.left.now last outside))) (sym c.pop-in-BrIf.ensures.rest)
+
+pub plain-requires-clause-operands : goal.plain-requires-clause-operands
+plain-requires-clause-operands g c =
+    let P = program_of c.args.functions.now in
+    let t = c.args.thread.now in
+    let q = c.requires in
+    let s0 = state_of t.state q.0 c.args.left.now q.1 q.2 in
+    let is = c.in-Plain.ensures (expression_of t.code.now) in
+    has_operands c.in-Plain.op (values_of t.state) s0 _ (alone g.H.Host.meaning P t _ (begins g.H.Host.meaning P t _ _ s0 is q.3))
+
+pub plain-requires-clause-place : goal.plain-requires-clause-place
+plain-requires-clause-place g c =
+    let P = program_of c.args.functions.now in
+    let t = c.args.thread.now in
+    let q = c.requires in
+    let s0 = state_of t.state q.0 c.args.left.now q.1 q.2 in
+    let is = c.in-Plain.ensures (expression_of t.code.now) in
+    has_place c.in-Plain.op (values_of t.state) s0 _ (alone g.H.Host.meaning P t _ (begins g.H.Host.meaning P t _ _ s0 is q.3))
+
+pub pop-requires : goal.pop-requires
+pop-requires g c =
+    let P = program_of c.args.functions.now in
+    let t = c.args.thread.now in
+    let q = c.requires in
+    let s0 = state_of t.state q.0 c.args.left.now q.1 q.2 in
+    let is = c.in-If.ensures (expression_of t.code.now) in
+    operand g.H.Host.meaning P t _ _ s0 _ is refl q.3
+
+pub pop-requires-in-BrIf : goal.pop-requires-in-BrIf
+pop-requires-in-BrIf g c =
+    let P = program_of c.args.functions.now in
+    let t = c.args.thread.now in
+    let q = c.requires in
+    let s0 = state_of t.state q.0 c.args.left.now q.1 q.2 in
+    let is = c.in-BrIf.ensures (expression_of t.code.now) in
+    operand g.H.Host.meaning P t _ _ s0 _ is refl q.3
+
+pub pop-requires-in-BrTable : goal.pop-requires-in-BrTable
+pop-requires-in-BrTable g c =
+    let P = program_of c.args.functions.now in
+    let t = c.args.thread.now in
+    let q = c.requires in
+    let s0 = state_of t.state q.0 c.args.left.now q.1 q.2 in
+    let is = c.in-BrTable.ensures (expression_of t.code.now) in
+    operand g.H.Host.meaning P t _ _ s0 _ is refl q.3
+
+pub grow-requires : goal.grow-requires
+grow-requires g c =
+    let P = program_of c.args.functions.now in
+    let t = c.args.thread.now in
+    let q = c.requires in
+    let s0 = state_of t.state q.0 c.args.left.now q.1 q.2 in
+    let is = c.in-MemoryGrow.ensures (expression_of t.code.now) in
+    operand g.H.Host.meaning P t _ _ s0 _ is refl q.3
+
+pub call_indirect-requires-clause-room : goal.call_indirect-requires-clause-room
+call_indirect-requires-clause-room g c =
+    let P = program_of c.args.functions.now in
+    let t = c.args.thread.now in
+    let q = c.requires in
+    let s0 = state_of t.state q.0 c.args.left.now q.1 q.2 in
+    let is = c.in-CallIndirect.ensures (expression_of t.code.now) in
+    operand g.H.Host.meaning P t _ _ s0 _ is refl q.3
+
+pub branch-thread-requires : goal.branch-thread-requires
+branch-thread-requires g c =
+    let P = program_of c.args.functions.now in
+    let t = c.args.thread.now in
+    let q = c.requires in
+    let s0 = state_of t.state q.0 c.args.left.now q.1 q.2 in
+    let is = c.in-Br.ensures (expression_of t.code.now) in
+    reaches g.H.Host.meaning P t.free t.state.values.below t.frames c.in-Br.depth s0 (begins g.H.Host.meaning P t _ _ s0 is q.3)
+
+pub leave-requires : goal.leave-requires
+leave-requires g c =
+    let P = program_of c.args.functions.now in
+    let t = c.args.thread.now in
+    let q = c.requires in
+    let s0 = state_of t.state q.0 c.args.left.now q.1 q.2 in
+    let is = c.in-Return.ensures (expression_of t.code.now) in
+    returns g.H.Host.meaning P t.free t.state.values.below t.frames s0 (begins g.H.Host.meaning P t _ _ s0 is q.3)
+
+pub call_function-requires : goal.call_function-requires
+call_function-requires g c =
+    let P = program_of c.args.functions.now in
+    let t = c.args.thread.now in
+    let q = c.requires in
+    let s0 = state_of t.state q.0 c.args.left.now q.1 q.2 in
+    let is = c.in-Call.ensures (expression_of t.code.now) in
+    callable g.H.Host.meaning P t.free c.in-Call.function s0 (first_runs _ (rest_of g.H.Host.meaning P t) (alone g.H.Host.meaning P t _ (begins g.H.Host.meaning P t _ _ s0 is q.3)))
+
+pub call_indirect-requires-clause-leaves : goal.call_indirect-requires-clause-leaves
+call_indirect-requires-clause-leaves g c =
+    let P = program_of c.args.functions.now in
+    let t = c.args.thread.now in
+    let q = c.requires in
+    let s0 = state_of t.state q.0 c.args.left.now q.1 q.2 in
+    let is = c.in-CallIndirect.ensures (expression_of t.code.now) in
+    let lt = operand g.H.Host.meaning P t _ _ s0 _ is refl q.3 in
+    leaves g.H.Host.meaning P t.free (element P c.in-CallIndirect.kind (low (top t.state.values.stack))) (on_stack s0 (popped t.state.values.stack))
+    (first_runs _ (rest_of g.H.Host.meaning P t) (alone g.H.Host.meaning P t _
+    (subst (λ o. NotStuck (whole g.H.Host.meaning P t o)) (CallIndirect_is P (call g.H.Host.meaning P t.free) s0 lt c.in-CallIndirect.kind (expression_of t.code.now)) (begins g.H.Host.meaning P t _ _ s0 is q.3))))
+
+pub branch-thread-requires-in-BrIf : goal.branch-thread-requires-in-BrIf
+branch-thread-requires-in-BrIf g c =
+    let P = program_of c.args.functions.now in
+    let t = c.args.thread.now in
+    let q = c.requires in
+    let s0 = state_of t.state q.0 c.args.left.now q.1 q.2 in
+    let is = c.in-BrIf.ensures (expression_of t.code.now) in
+    let lt = operand g.H.Host.meaning P t _ _ s0 _ is refl q.3 in
+    let n : low (top t.state.values.stack) ≡ c.low.result = sym (c.low.ensures ∙ ap low c.pop-in-BrIf.ensures.value) in
+    let taken : (low (top t.state.values.stack) == 0) ≡ false = ap (λ k. k == 0) n ∙ grind (arith, eqb-true, c.if-low-eq0.false) in
+    subst (λ v. Reaches t.frames c.in-BrIf.depth (length v.stack)) (sym c.pop-in-BrIf.ensures.rest)
+    (reaches g.H.Host.meaning P t.free t.state.values.below t.frames c.in-BrIf.depth (on_stack s0 (popped t.state.values.stack))
+    (subst (λ b. NotStuck (whole g.H.Host.meaning P t (and_then (jump_unless b c.in-BrIf.depth (on_stack s0 (popped t.state.values.stack))) (rest_of g.H.Host.meaning P t)))) taken
+    (subst (λ o. NotStuck (whole g.H.Host.meaning P t o)) (BrIf_is P (call g.H.Host.meaning P t.free) s0 lt c.in-BrIf.depth (expression_of t.code.now)) (begins g.H.Host.meaning P t _ _ s0 is q.3))))
+
+pub branch-thread-requires-in-BrTable : goal.branch-thread-requires-in-BrTable
+branch-thread-requires-in-BrTable g c =
+    let P = program_of c.args.functions.now in
+    let t = c.args.thread.now in
+    let q = c.requires in
+    let s0 = state_of t.state q.0 c.args.left.now q.1 q.2 in
+    let is = c.in-BrTable.ensures (expression_of t.code.now) in
+    let lt = operand g.H.Host.meaning P t _ _ s0 _ is refl q.3 in
+    let n : low (top t.state.values.stack) ≡ c.low-at.result = sym (c.low-at.ensures ∙ ap low c.pop-in-BrTable.ensures.value) in
+    let depth = ap (λ at. slice_index_or c.in-BrTable.labels.now at c.in-BrTable.last) n ∙ sym c.label-depth.ensures in
+    subst (λ k. Reaches t.frames k (length c.pop-in-BrTable.new.self.stack)) depth
+    (subst (λ v. Reaches t.frames (slice_index_or c.in-BrTable.labels.now (low (top t.state.values.stack)) c.in-BrTable.last) (length v.stack)) (sym c.pop-in-BrTable.ensures.rest)
+    (reaches g.H.Host.meaning P t.free t.state.values.below t.frames (slice_index_or c.in-BrTable.labels.now (low (top t.state.values.stack)) c.in-BrTable.last) (on_stack s0 (popped t.state.values.stack))
+    (subst (λ o. NotStuck (whole g.H.Host.meaning P t o)) (BrTable_is P (call g.H.Host.meaning P t.free) s0 lt c.in-BrTable.labels.now c.in-BrTable.last (expression_of t.code.now)) (begins g.H.Host.meaning P t _ _ s0 is q.3))))

@@ -1,4 +1,4 @@
-use Rattle.std.proofs.Common.{◌≡◌, Ok, Err, sym, ap, subst, ◌∙◌}
+use Rattle.std.proofs.Common.{◌≡◌, Some, Ok, Err, sym, ap, subst, ◌∙◌}
 use Rattle.ante_wrun.specs.declared.ends.RunEnd.TheVariants as end
 use Rattle.ante_wrun.specs.Effects.{low, top, popped}
 use Rattle.ante_wrun.specs.Meaning.{and_then, target, element, on_stack, call}
@@ -13,8 +13,8 @@ returns-in-Ok g c =
     let t = c.args.thread.now in
     let K = call g.H.Host.meaning P t.free in
     let stack = t.state.values.stack in
-    let e : element P c.args.wanted (low (top stack)) ≡ Ok c.in-Ok.function =
-    ap (element P c.args.wanted) (sym (c.low-at.ensures ∙ ap low c.pop.ensures.value)) ∙ sym c.element.ensures ∙ c.in-Ok.is in
+    let e : element P c.args.wanted (low (top stack)) ≡ Some (Ok c.in-Ok.function) =
+    ap (element P c.args.wanted) (sym (c.low-at.ensures ∙ ap low c.pop.ensures.value)) ∙ c.element.ensures ∙ ap Some c.in-Ok.is in
     if_ok c.call_function.result _ _
     (λ next h w left last outside.
     let s = on_stack (state_of t.state w left last outside) (popped stack) in
@@ -30,7 +30,7 @@ returns-in-Err g c = λ w left last outside.
     let t = c.args.thread.now in
     let K = call g.H.Host.meaning P t.free in
     let stack = t.state.values.stack in
-    let e : element P c.args.wanted (low (top stack)) ≡ Err c.in-Err.kind =
-    ap (element P c.args.wanted) (sym (c.low-at.ensures ∙ ap low c.pop.ensures.value)) ∙ sym c.element.ensures ∙ c.in-Err.is in
+    let e : element P c.args.wanted (low (top stack)) ≡ Some (Err c.in-Err.kind) =
+    ap (element P c.args.wanted) (sym (c.low-at.ensures ∙ ap low c.pop.ensures.value)) ∙ c.element.ensures ∙ ap Some c.in-Err.is in
     let s = on_stack (state_of t.state w left last outside) (popped stack) in
     stops g.H.Host.meaning P t.free t.state.values.below t.frames (rest_of g.H.Host.meaning P t) (target (element P c.args.wanted (low (top stack))) K s) (end.Trap c.in-Err.kind) s (ap (λ r. target r K s) e)

@@ -1,13 +1,13 @@
-use Rattle.std.proofs.Common.{◌≡◌, Some, Ok, [], refl, ap, subst, ◌∙◌}
+use Rattle.std.proofs.Common.{◌≡◌, Some, Ok, [], refl, ap, sym, subst, ◌∙◌}
 use Rattle.std.proofs.lemmas.Result.{err_from_is_err_and}
 use Rattle.ante_wrun.specs.declared.ends.RunEnd.TheVariants as end
 use Rattle.ante_wrun.specs.Meaning.{Normal, settled, call, invoked}
 use Rattle.ante_wrun.specs.Machine.{state_of}
 use Rattle.ante_wrun.specs.Control.{program_of}
-use Rattle.ante_wrun.specs.Runs.{past, Wanting, Ends, Lacking}
+use Rattle.ante_wrun.specs.Runs.{past, Wanting, Ends, Lacking, NotStuck}
 use Rattle.ante_wrun.specs.Turns.{RunLeads}
 use Rattle.ante_wrun.specs.Running.{most_frames, with_arguments, called_with}
-use Rattle.ante_wrun.proofs.Whole.{wanted_first, call_lacks, recalled}
+use Rattle.ante_wrun.proofs.Whole.{wanted_first, call_lacks, called_as, recalled}
 use Rattle.ante_wrun.proofs.machine.call_with.Goals as goal
 
 pub returns-in_err-values-clause-leads : goal.returns-in_err-values-clause-leads
@@ -53,3 +53,9 @@ returns-clause-leads g c =
       λ v b.
           subst (λ x. RunLeads g.H.Host.stands (invoked g.H.Host.meaning P c.most_frames.result c.args.function (state_of (record c.args.state { values = c.in_ok-values.values }) c.args.host.now c.args.left.now c.args.last.now v)) (Ok x) c.invoke.new.thread c.invoke.new.host c.invoke.new.left c.invoke.new.last (past v h.0)) c.in-None.is (h.2 v b),
     ))
+
+pub invoke-requires-clause-sound : goal.invoke-requires-clause-sound
+invoke-requires-clause-sound g c =
+    let P = program_of c.args.functions.now in
+    let S = c.requires.sound in
+    (S.0, S.1, subst NotStuck (sym (called_as g.H.Host.meaning P c.args.state c.in_ok-values.values c.most_frames.result c.args.args.now c.args.function c.args.host.now c.args.left.now c.args.last.now S.0 c.in_ok-values.ensures c.most_frames.ensures)) S.2)

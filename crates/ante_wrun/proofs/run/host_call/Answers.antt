@@ -1,21 +1,26 @@
-use Rattle.std.proofs.Common.{◌≡◌, length, refl, sym, ap, subst, ◌∙◌}
+use Rattle.std.proofs.Common.{◌≡◌, ℕ, List, length, refl, sym, ap, subst, ◌∙◌}
 use Rattle.ante_wmem.specs.declared.host.HostAnswer.TheVariants as answer
 use Rattle.ante_wrun.specs.declared.ends.RunEnd.TheVariants as end
 use Rattle.ante_wrun.specs.Effects.{popped}
-use Rattle.ante_wrun.specs.Meaning.{after_call, and_then, on_stack, stack_of, arguments}
+use Rattle.ante_wrun.specs.Meaning.{after_call, and_then, on_stack, stack_of, arguments, masked}
 use Rattle.ante_wrun.specs.Machine.{state_of, rest_of, under}
 use Rattle.ante_wrun.specs.Runs.{Ends, Lacking}
 use Rattle.ante_wrun.proofs.Calls.{ended}
 use Rattle.ante_wrun.proofs.Turning.{replied, unsupplied, in_host}
+use Rattle.ante_wtree.specs.declared.instructions.ValueKind.{ValueKind}
 use Rattle.ante_wrun.proofs.run.host_call.Goals as goal
+
+lent : (params kinds : List ValueKind) (count : ℕ) (old new args : List ℕ) → kinds ≡ params → count ≡ length params → arguments (length kinds) new ≡ masked kinds (arguments (length kinds) old) → args ≡ arguments count new →
+    args ≡ masked params (arguments (length params) old)
+lent params kinds count old new args e n m a = a ∙ ap (λ k. arguments k new) n ∙ subst (λ ks. arguments (length ks) new ≡ masked ks (arguments (length ks) old)) e m
 
 pub returns-in-Exit-clause-leads : goal.returns-in-Exit-clause-leads
 returns-in-Exit-clause-leads g c = λ program last outside lacks.
     let t = c.args.thread.now in
     let kind = c.args.kind.now in
     let s = on_stack (state_of t.state c.args.host.now c.args.left.now last outside) (popped t.state.values.stack) in
-    let args = arguments (length kind.params) (stack_of s) in
-    let a : c.arguments-args.result.now ≡ args = c.arguments-args.ensures ∙ ap (λ k. arguments k (stack_of s)) c.len-count.ensures in
+    let args = masked kind.params (arguments (length kind.params) (stack_of s)) in
+    let a : c.arguments-args.result.now ≡ args = lent kind.params c.as_slice.result.now c.len-count.result (popped t.state.values.stack) (popped c.mask.new.self.stack) c.arguments-args.result.now c.as_slice.ensures c.len-count.ensures c.mask.ensures.arguments c.arguments-args.ensures in
     let o = ap (λ x. under g.H.Host.meaning program t.free t.state.values.below t.frames (and_then x (rest_of g.H.Host.meaning program t)))
     (replied g.H.Host.meaning kind c.args.number s c.arguments-args.result.now _ a lacks c.in-Exit.ensures.answer)
     ∙ ended g.H.Host.meaning program t.free t.state.values.below t.frames end.Exit _ in
@@ -26,8 +31,8 @@ returns-in-Refused-clause-leads g c = λ program last outside lacks.
     let t = c.args.thread.now in
     let kind = c.args.kind.now in
     let s = on_stack (state_of t.state c.args.host.now c.args.left.now last outside) (popped t.state.values.stack) in
-    let args = arguments (length kind.params) (stack_of s) in
-    let a : c.arguments-args.result.now ≡ args = c.arguments-args.ensures ∙ ap (λ k. arguments k (stack_of s)) c.len-count.ensures in
+    let args = masked kind.params (arguments (length kind.params) (stack_of s)) in
+    let a : c.arguments-args.result.now ≡ args = lent kind.params c.as_slice.result.now c.len-count.result (popped t.state.values.stack) (popped c.mask.new.self.stack) c.arguments-args.result.now c.as_slice.ensures c.len-count.ensures c.mask.ensures.arguments c.arguments-args.ensures in
     let o = ap (λ x. under g.H.Host.meaning program t.free t.state.values.below t.frames (and_then x (rest_of g.H.Host.meaning program t)))
     (replied g.H.Host.meaning kind c.args.number s c.arguments-args.result.now _ a lacks c.in-Refused.ensures.answer.0)
     ∙ in_host g.H.Host.meaning program t.free t.state.values.below t.frames c.args.number args (answer.Refused c.in-Refused.refusal) c.call.new.left _ in
@@ -39,8 +44,8 @@ returns-in-StepLimit-clause-leads g c = λ program last outside lacks.
     let t = c.args.thread.now in
     let kind = c.args.kind.now in
     let s = on_stack (state_of t.state c.args.host.now c.args.left.now last outside) (popped t.state.values.stack) in
-    let args = arguments (length kind.params) (stack_of s) in
-    let a : c.arguments-args.result.now ≡ args = c.arguments-args.ensures ∙ ap (λ k. arguments k (stack_of s)) c.len-count.ensures in
+    let args = masked kind.params (arguments (length kind.params) (stack_of s)) in
+    let a : c.arguments-args.result.now ≡ args = lent kind.params c.as_slice.result.now c.len-count.result (popped t.state.values.stack) (popped c.mask.new.self.stack) c.arguments-args.result.now c.as_slice.ensures c.len-count.ensures c.mask.ensures.arguments c.arguments-args.ensures in
     let o = ap (λ x. under g.H.Host.meaning program t.free t.state.values.below t.frames (and_then x (rest_of g.H.Host.meaning program t)))
     (replied g.H.Host.meaning kind c.args.number s c.arguments-args.result.now _ a lacks c.in-StepLimit.ensures.answer.0)
     ∙ in_host g.H.Host.meaning program t.free t.state.values.below t.frames c.args.number args answer.StepLimit c.call.new.left _ in
@@ -52,8 +57,8 @@ returns-in-OutOfMemory-clause-leads g c = λ program last outside lacks.
     let t = c.args.thread.now in
     let kind = c.args.kind.now in
     let s = on_stack (state_of t.state c.args.host.now c.args.left.now last outside) (popped t.state.values.stack) in
-    let args = arguments (length kind.params) (stack_of s) in
-    let a : c.arguments-args.result.now ≡ args = c.arguments-args.ensures ∙ ap (λ k. arguments k (stack_of s)) c.len-count.ensures in
+    let args = masked kind.params (arguments (length kind.params) (stack_of s)) in
+    let a : c.arguments-args.result.now ≡ args = lent kind.params c.as_slice.result.now c.len-count.result (popped t.state.values.stack) (popped c.mask.new.self.stack) c.arguments-args.result.now c.as_slice.ensures c.len-count.ensures c.mask.ensures.arguments c.arguments-args.ensures in
     let o = ap (λ x. under g.H.Host.meaning program t.free t.state.values.below t.frames (and_then x (rest_of g.H.Host.meaning program t)))
     (unsupplied g.H.Host.meaning kind c.args.number s lacks)
     ∙ in_host g.H.Host.meaning program t.free t.state.values.below t.frames c.args.number args answer.OutOfMemory s.left s in

@@ -1,12 +1,14 @@
 use Rattle.std.proofs.Common.{◌≡◌, [], ◌∷◌, length, refl, sym, subst, ◌∙◌}
 use Rattle.ante_wrun.specs.declared.ends.RunEnd.TheVariants as end
 use Rattle.ante_wrun.specs.Effects.{popped}
-use Rattle.ante_wrun.specs.Meaning.{after_call, call, arguments}
-use Rattle.ante_wrun.specs.Machine.{state_of, going, after}
+use Rattle.ante_wrun.specs.Meaning.{after_call, call, arguments, masked, on_stack}
+use Rattle.ante_wrun.specs.Machine.{state_of, going, after, rest_of}
 use Rattle.ante_wrun.specs.Control.{program_of, Leads, GivenAt}
-use Rattle.ante_wrun.specs.Runs.{CallSupplied, Wanting, Ends, Lacking}
+use Rattle.ante_wrun.specs.Runs.{CallSupplied, Wanting, Ends, Lacking, NotStuck}
 use Rattle.ante_wrun.specs.Turns.{RunLeads}
-use Rattle.ante_wrun.proofs.Turning.{more_events, invoke_by, outset, stops_ends, some_outside}
+use Rattle.ante_wrun.proofs.Turning.{sound_call, answered, more_events, invoke_by, outset, stops_ends, some_outside}
+use Rattle.ante_wrun.proofs.Rules.{first_runs, inner, callable}
+use Rattle.ante_wrun.proofs.Masks.{masked_fit}
 use Rattle.ante_wrun.proofs.run.invoke.Goals as goal
 
 pub returns-in-Ok-Go-clause-leads : goal.returns-in-Ok-Go-clause-leads
@@ -71,7 +73,39 @@ pub host_call-requires-clause-allowed : goal.host_call-requires-clause-allowed
 host_call-requires-clause-allowed g c =
     let P = program_of c.args.functions.now in
     let h = subst (λ n. Leads g.H.Host.meaning P (after g.H.Host.meaning P c.args.thread.now (call g.H.Host.meaning P c.args.thread.now.free c.args.function (state_of c.args.thread.now.state c.args.host.now c.args.left.now c.args.last.now some_outside))) n c.call_function.new.thread c.args.host.now c.args.left.now c.args.last.now some_outside) c.in-Ok-HostCall.field-0-is (c.in-Ok-HostCall.ensures.leads c.args.host.now c.args.left.now c.args.last.now some_outside) in
-    c.requires.here (c.in-Ok-HostCall.kind.now, c.in-Ok-HostCall.number, subst (GivenAt (program_of c.args.functions.now) c.args.function) c.in-Ok-HostCall.field-0-is c.in-Ok-HostCall.ensures.given) c.in-Ok-HostCall.kind.now c.in-Ok-HostCall.number (arguments (length c.in-Ok-HostCall.kind.now.params) (popped c.call_function.new.thread.state.values.stack)) h.3 h.2
+    c.requires.here (c.in-Ok-HostCall.kind.now, c.in-Ok-HostCall.number, subst (GivenAt (program_of c.args.functions.now) c.args.function) c.in-Ok-HostCall.field-0-is c.in-Ok-HostCall.ensures.given) c.in-Ok-HostCall.kind.now c.in-Ok-HostCall.number (masked c.in-Ok-HostCall.kind.now.params (arguments (length c.in-Ok-HostCall.kind.now.params) (popped c.call_function.new.thread.state.values.stack))) h.2
+    (masked_fit c.in-Ok-HostCall.kind.now.params c.call_function.new.thread.state.values.stack h.1)
 
-pub run_thread-requires-in-Go : goal.run_thread-requires-in-Go
-run_thread-requires-in-Go g c = λ less lt kind number args given fit. c.in-Go.ensures.after number args less lt (c.requires.here (c.in-Ok-HostCall.kind.now, c.in-Ok-HostCall.number, subst (GivenAt (program_of c.args.functions.now) c.args.function) c.in-Ok-HostCall.field-0-is c.in-Ok-HostCall.ensures.given) kind number args given fit)
+pub run_thread-requires-in-Go-clause-below : goal.run_thread-requires-in-Go-clause-below
+run_thread-requires-in-Go-clause-below g c = λ less lt kind number args given fit. c.in-Go.ensures.after number args less lt (c.requires.here (c.in-Ok-HostCall.kind.now, c.in-Ok-HostCall.number, subst (GivenAt (program_of c.args.functions.now) c.args.function) c.in-Ok-HostCall.field-0-is c.in-Ok-HostCall.ensures.given) kind number args given fit)
+
+pub call_function-requires : goal.call_function-requires
+call_function-requires g c =
+    let P = program_of c.args.functions.now in
+    let S = sound_call g.H.Host.meaning P g.P.Stop.may c.args.stop.now c.args.host.now c.args.thread.now c.requires.idle.0 c.requires.idle.1 c.args.function c.args.left.now c.args.last.now c.requires.sound in
+    let t = c.args.thread.now in
+    callable g.H.Host.meaning P t.free c.args.function (state_of t.state c.args.host.now c.args.left.now c.args.last.now S.0)
+    (first_runs _ (rest_of g.H.Host.meaning P t) (inner g.H.Host.meaning P t.free t.state.values.below t.frames _ S.2))
+
+pub run_thread-requires-clause-sound : goal.run_thread-requires-clause-sound
+run_thread-requires-clause-sound g c =
+    let P = program_of c.args.functions.now in
+    let S = sound_call g.H.Host.meaning P g.P.Stop.may c.args.stop.now c.args.host.now c.args.thread.now c.requires.idle.0 c.requires.idle.1 c.args.function c.args.left.now c.args.last.now c.requires.sound in
+    (S.0, S.1, subst NotStuck (subst (λ n. Leads g.H.Host.meaning P (after g.H.Host.meaning P c.args.thread.now (call g.H.Host.meaning P c.args.thread.now.free c.args.function (state_of c.args.thread.now.state c.args.host.now c.args.left.now c.args.last.now S.0))) n c.call_function.new.thread c.args.host.now c.args.left.now c.args.last.now S.0) c.in-Ok-Go.field-0-is (c.in-Ok-Go.ensures.leads c.args.host.now c.args.left.now c.args.last.now S.0)) S.2)
+
+pub run_thread-requires-in-Go-clause-sound : goal.run_thread-requires-in-Go-clause-sound
+run_thread-requires-in-Go-clause-sound g c =
+    let P = program_of c.args.functions.now in
+    let S = sound_call g.H.Host.meaning P g.P.Stop.may c.args.stop.now c.args.host.now c.args.thread.now c.requires.idle.0 c.requires.idle.1 c.args.function c.args.left.now c.args.last.now c.requires.sound in
+    let h = subst (λ n. Leads g.H.Host.meaning P (after g.H.Host.meaning P c.args.thread.now (call g.H.Host.meaning P c.args.thread.now.free c.args.function (state_of c.args.thread.now.state c.args.host.now c.args.left.now c.args.last.now S.0))) n c.call_function.new.thread c.args.host.now c.args.left.now c.args.last.now S.0) c.in-Ok-HostCall.field-0-is (c.in-Ok-HostCall.ensures.leads c.args.host.now c.args.left.now c.args.last.now S.0) in
+    (after_call S.0, S.1, subst NotStuck (h.0 ∙ c.in-Go.ensures.leads P c.args.last.now S.0 (S.1.2 S.0.calls)) S.2)
+
+pub host_call-requires-clause-replies : goal.host_call-requires-clause-replies
+host_call-requires-clause-replies g c =
+    let P = program_of c.args.functions.now in
+    let S = sound_call g.H.Host.meaning P g.P.Stop.may c.args.stop.now c.args.host.now c.args.thread.now c.requires.idle.0 c.requires.idle.1 c.args.function c.args.left.now c.args.last.now c.requires.sound in
+    let h = subst (λ n. Leads g.H.Host.meaning P (after g.H.Host.meaning P c.args.thread.now (call g.H.Host.meaning P c.args.thread.now.free c.args.function (state_of c.args.thread.now.state c.args.host.now c.args.left.now c.args.last.now S.0))) n c.call_function.new.thread c.args.host.now c.args.left.now c.args.last.now S.0) c.in-Ok-HostCall.field-0-is (c.in-Ok-HostCall.ensures.leads c.args.host.now c.args.left.now c.args.last.now S.0) in
+    let t = c.call_function.new.thread in
+    let s = on_stack (state_of t.state c.args.host.now c.args.left.now c.args.last.now S.0) (popped t.state.values.stack) in
+    answered g.H.Host.meaning c.in-Ok-HostCall.kind.now c.in-Ok-HostCall.number s (S.1.2 S.0.calls)
+    (first_runs _ (rest_of g.H.Host.meaning P t) (inner g.H.Host.meaning P t.free t.state.values.below t.frames _ (subst NotStuck h.0 S.2)))

@@ -1,4 +1,4 @@
-use Rattle.std.proofs.Common.{◌≡◌, Ok, ap, subst}
+use Rattle.std.proofs.Common.{◌≡◌, Ok, ap, subst, arith}
 use Rattle.ante_wrun.specs.Meaning.{Outside, Normal}
 use Rattle.ante_wrun.specs.Machine.{state_of, going}
 use Rattle.ante_wrun.specs.Control.{program_of}
@@ -18,6 +18,8 @@ turns-preserved g c =
           (subst (λ p. ByEvents g.P.Stop.may c.turns.stop c.turn.new.stop (λ events. (u : Outside) → Begins u events →
           TurnLeads g.H.Host.meaning g.H.Host.stands P (going g.H.Host.meaning P c.turns.thread (state_of c.turns.thread.state c.turns.host c.turns.left c.turns.last u)) (Ok p) c.turn.new.thread c.turn.new.host c.turn.new.left c.turn.new.last (past u events))) c.in-Ok-Go.field-0-is c.in-Ok-Go.ensures.leads),
       c.in-Ok-Go.ensures.allowed (ap Ok c.in-Ok-Go.field-0-is),
+      c.in-Ok-Go.ensures.sound (ap Ok c.in-Ok-Go.field-0-is),
+      omega (arith, c.in-Ok-Go.ensures.sinks, c.turns.invariant.3),
     )
 
 pub returns-in-Ok-Over-clause-leads : goal.returns-in-Ok-Over-clause-leads

@@ -1,8 +1,8 @@
-use Rattle.std.proofs.Common.{◌≡◌}
+use Rattle.std.proofs.Common.{◌≡◌, ◌≤◌}
 use Rattle.ante_wrun.specs.Meaning.{Outside}
 use Rattle.ante_wrun.specs.Machine.{state_of, going}
 use Rattle.ante_wrun.specs.Control.{program_of}
-use Rattle.ante_wrun.specs.Runs.{Begins, past, ByEvents, MayBelow}
+use Rattle.ante_wrun.specs.Runs.{Begins, past, ByEvents, Sound, MayBelow}
 use Rattle.ante_wrun.proofs.run.run_thread.Given as goal
 
 abbrev pub invariant-turns : goal.invariant-turns
@@ -11,6 +11,8 @@ invariant-turns g l =
     going g.H.Host.meaning (program_of l.functions) l.fn.thread (state_of l.fn.thread.state l.fn.host l.fn.left l.fn.last v)
     ≡ going g.H.Host.meaning (program_of l.functions) l.thread (state_of l.thread.state l.host l.left l.last (past v events)))
     × MayBelow g.H.Host.allowed (program_of l.functions) l.host l.left
+    × Sound (λ outside. going g.H.Host.meaning (program_of l.functions) l.thread (state_of l.thread.state l.host l.left l.last outside))
+    × (l.left ≤ l.fn.left)
 
 abbrev pub decreases-turns : goal.decreases-turns
 decreases-turns g l = l.left

@@ -1,11 +1,14 @@
-use Rattle.std.proofs.Common.{◌≡◌, ◌<◌, [], ◌∷◌, length, refl, sym, subst, ◌∙◌, arith}
+use Rattle.std.proofs.Common.{◌≡◌, ◌<◌, Some, [], ◌∷◌, length, refl, sym, subst, ◌∙◌, arith}
 use Rattle.ante_wrun.specs.declared.ends.RunEnd.TheVariants as end
 use Rattle.ante_wrun.specs.Effects.{popped}
-use Rattle.ante_wrun.specs.Meaning.{after_call, arguments}
-use Rattle.ante_wrun.specs.Machine.{state_of, whole, going}
+use Rattle.ante_wrun.specs.Meaning.{after_call, arguments, masked, on_stack}
+use Rattle.ante_wrun.specs.Machine.{state_of, whole, going, rest_of}
 use Rattle.ante_wrun.specs.Control.{program_of, Leads}
-use Rattle.ante_wrun.specs.Runs.{CallSupplied, Wanting, Ends, Lacking}
-use Rattle.ante_wrun.proofs.Turning.{first_of, turn_by, limit_by, cut_by, lack_by, stops_ends, some_outside}
+use Rattle.ante_wrun.specs.Runs.{CallSupplied, Wanting, Ends, Lacking, NotStuck}
+use Rattle.ante_wrun.proofs.Turning.{first_of, sound_turn, answered, turn_by, limit_by, cut_by, lack_by, stops_ends, some_outside}
+use Rattle.ante_wrun.proofs.Rules.{first_runs, inner}
+use Rattle.ante_wrun.proofs.Masks.{masked_fit}
+use Rattle.ante_wrun.specs.Turns.{MayLook}
 use Rattle.ante_wrun.proofs.run.turn.Goals as goal
 
 pub returns-in-StepLimit-clause-leads : goal.returns-in-StepLimit-clause-leads
@@ -17,6 +20,11 @@ pub returns-in-Cut-clause-leads : goal.returns-in-Cut-clause-leads
 returns-in-Cut-clause-leads g c =
     let P = program_of c.args.functions.now in
     cut_by g.H.Host.meaning g.H.Host.stands P g.P.Stop.may c.args.stop.now c.pay.new.stop c.args.host.now c.args.thread.now c.next_instr.new.thread c.in-Some.instr c.args.left.now c.args.last.now (λ v. c.in-Some.ensures P c.args.host.now c.args.left.now c.args.last.now v) c.pay.new.left c.in-Cut.at c.in-Cut.ensures.steps.0 c.in-Cut.ensures.steps.1 c.in-Cut.ensures.look
+
+pub returns-in-Cut-clause-cut : goal.returns-in-Cut-clause-cut
+returns-in-Cut-clause-cut g c = λ at e.
+    let is : c.in-Cut.at ≡ at = cc in
+    (c.args.stop.now, subst (λ n. g.P.Stop.may c.args.stop.now (Some n) c.pay.new.stop) is (subst (λ b. MayLook g.P.Stop.may b c.args.stop.now (Some c.in-Cut.at) c.pay.new.stop) c.in-Cut.ensures.steps.0 c.in-Cut.ensures.look))
 
 pub returns-in-None-clause-leads : goal.returns-in-None-clause-leads
 returns-in-None-clause-leads g c =
@@ -90,4 +98,38 @@ host_call-requires-clause-allowed g c =
     let P = program_of c.args.functions.now in
     let h = subst (λ n. Leads g.H.Host.meaning P (whole g.H.Host.meaning P c.next_instr.new.thread (first_of g.H.Host.meaning P c.next_instr.new.thread c.in-Some.instr (state_of c.next_instr.new.thread.state c.args.host.now c.pay.new.left c.pay.new.last some_outside))) n c.act.new.thread c.args.host.now c.act.new.left c.pay.new.last some_outside) c.in-Ok-HostCall.field-0-is (c.in-Ok-HostCall.ensures.leads c.args.host.now c.pay.new.last some_outside) in
     let less : c.act.new.left < c.args.left.now = omega (arith, c.in-Ok-HostCall.ensures.falls, c.in-Yes.ensures.steps.0) in
-    c.requires c.act.new.left less c.in-Ok-HostCall.kind.now c.in-Ok-HostCall.number (arguments (length c.in-Ok-HostCall.kind.now.params) (popped c.act.new.thread.state.values.stack)) h.3 h.2
+    c.requires.below c.act.new.left less c.in-Ok-HostCall.kind.now c.in-Ok-HostCall.number (masked c.in-Ok-HostCall.kind.now.params (arguments (length c.in-Ok-HostCall.kind.now.params) (popped c.act.new.thread.state.values.stack))) h.2
+    (masked_fit c.in-Ok-HostCall.kind.now.params c.act.new.thread.state.values.stack h.1)
+
+-- the instruction that is next, in a run that isn't stuck
+pub act-requires : goal.act-requires
+act-requires g c =
+    let P = program_of c.args.functions.now in
+    let S = sound_turn g.H.Host.meaning g.H.Host.stands P g.P.Stop.may c.args.stop.now c.pay.new.stop c.args.host.now c.args.thread.now c.next_instr.new.thread c.in-Some.instr c.args.left.now c.args.last.now (λ v. c.in-Some.ensures P c.args.host.now c.args.left.now c.args.last.now v) c.pay.new.left c.pay.new.last c.in-Yes.ensures.steps.0 c.in-Yes.ensures.steps.1 c.requires.sound in
+    (c.args.host.now, c.pay.new.last, S.0, S.2)
+
+pub next_instr-requires : goal.next_instr-requires
+next_instr-requires g c = (program_of c.args.functions.now, c.args.host.now, c.args.left.now, c.args.last.now, c.requires.sound.0, c.requires.sound.2)
+
+pub returns-in-Ok-Go-clause-sound : goal.returns-in-Ok-Go-clause-sound
+returns-in-Ok-Go-clause-sound g c = λ e.
+    let P = program_of c.args.functions.now in
+    let S = sound_turn g.H.Host.meaning g.H.Host.stands P g.P.Stop.may c.args.stop.now c.pay.new.stop c.args.host.now c.args.thread.now c.next_instr.new.thread c.in-Some.instr c.args.left.now c.args.last.now (λ v. c.in-Some.ensures P c.args.host.now c.args.left.now c.args.last.now v) c.pay.new.left c.pay.new.last c.in-Yes.ensures.steps.0 c.in-Yes.ensures.steps.1 c.requires.sound in
+    (S.0, S.1, subst NotStuck (subst (λ n. Leads g.H.Host.meaning P (whole g.H.Host.meaning P c.next_instr.new.thread (first_of g.H.Host.meaning P c.next_instr.new.thread c.in-Some.instr (state_of c.next_instr.new.thread.state c.args.host.now c.pay.new.left c.pay.new.last S.0))) n c.act.new.thread c.args.host.now c.act.new.left c.pay.new.last S.0) c.in-Ok-Go.field-0-is (c.in-Ok-Go.ensures.leads c.args.host.now c.pay.new.last S.0)) S.2)
+
+pub returns-in-Go-clause-sound : goal.returns-in-Go-clause-sound
+returns-in-Go-clause-sound g c = λ e.
+    let P = program_of c.args.functions.now in
+    let S = sound_turn g.H.Host.meaning g.H.Host.stands P g.P.Stop.may c.args.stop.now c.pay.new.stop c.args.host.now c.args.thread.now c.next_instr.new.thread c.in-Some.instr c.args.left.now c.args.last.now (λ v. c.in-Some.ensures P c.args.host.now c.args.left.now c.args.last.now v) c.pay.new.left c.pay.new.last c.in-Yes.ensures.steps.0 c.in-Yes.ensures.steps.1 c.requires.sound in
+    let h = subst (λ n. Leads g.H.Host.meaning P (whole g.H.Host.meaning P c.next_instr.new.thread (first_of g.H.Host.meaning P c.next_instr.new.thread c.in-Some.instr (state_of c.next_instr.new.thread.state c.args.host.now c.pay.new.left c.pay.new.last S.0))) n c.act.new.thread c.args.host.now c.act.new.left c.pay.new.last S.0) c.in-Ok-HostCall.field-0-is (c.in-Ok-HostCall.ensures.leads c.args.host.now c.pay.new.last S.0) in
+    (after_call S.0, S.1, subst NotStuck (h.0 ∙ c.in-Go.ensures.leads P c.pay.new.last S.0 (S.1.2 S.0.calls)) S.2)
+
+pub host_call-requires-clause-replies : goal.host_call-requires-clause-replies
+host_call-requires-clause-replies g c =
+    let P = program_of c.args.functions.now in
+    let S = sound_turn g.H.Host.meaning g.H.Host.stands P g.P.Stop.may c.args.stop.now c.pay.new.stop c.args.host.now c.args.thread.now c.next_instr.new.thread c.in-Some.instr c.args.left.now c.args.last.now (λ v. c.in-Some.ensures P c.args.host.now c.args.left.now c.args.last.now v) c.pay.new.left c.pay.new.last c.in-Yes.ensures.steps.0 c.in-Yes.ensures.steps.1 c.requires.sound in
+    let h = subst (λ n. Leads g.H.Host.meaning P (whole g.H.Host.meaning P c.next_instr.new.thread (first_of g.H.Host.meaning P c.next_instr.new.thread c.in-Some.instr (state_of c.next_instr.new.thread.state c.args.host.now c.pay.new.left c.pay.new.last S.0))) n c.act.new.thread c.args.host.now c.act.new.left c.pay.new.last S.0) c.in-Ok-HostCall.field-0-is (c.in-Ok-HostCall.ensures.leads c.args.host.now c.pay.new.last S.0) in
+    let t = c.act.new.thread in
+    let s = on_stack (state_of t.state c.args.host.now c.act.new.left c.pay.new.last S.0) (popped t.state.values.stack) in
+    answered g.H.Host.meaning c.in-Ok-HostCall.kind.now c.in-Ok-HostCall.number s (S.1.2 S.0.calls)
+    (first_runs _ (rest_of g.H.Host.meaning P t) (inner g.H.Host.meaning P t.free t.state.values.below t.frames _ (subst NotStuck h.0 S.2)))

@@ -7,7 +7,7 @@ pub returns-in-Call : goal.returns-in-Call
 returns-in-Call g c = λ program w left last outside.
     let s = state_of c.frames.thread.state w left last outside in
     let m = under g.H.Host.meaning program c.frames.thread.free c.frames.thread.state.values.below in
-    c.frames.invariant program w left last outside
+    c.frames.invariant.0 program w left last outside
     ∙ ap (λ fs. m fs (Returned s)) c.in-Some.ensures
     ∙ ap (λ f. m (f ∷ c.pop.new.self) (Returned s)) c.in-Call.is
     ∙ sym (ap (λ f. m (f ∷ c.pop.new.self) (Normal s)) c.in-Call.is)

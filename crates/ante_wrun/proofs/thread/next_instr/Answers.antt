@@ -1,8 +1,10 @@
-use Rattle.std.proofs.Common.{ap, ◌∙◌}
+use Rattle.std.proofs.Common.{ap, subst, ◌∙◌}
 use Rattle.ante_wtree.specs.Expressions.{expression_of}
 use Rattle.ante_wrun.specs.Meaning.{Normal, does, call}
 use Rattle.ante_wrun.specs.Machine.{state_of, under}
+use Rattle.ante_wrun.specs.Runs.{NotStuck}
 use Rattle.ante_wrun.proofs.Bodies.{no_items}
+use Rattle.ante_wrun.proofs.Rules.{gives_back}
 use Rattle.ante_wrun.proofs.thread.next_instr.Goals as goal
 
 pub returns-in-Some : goal.returns-in-Some
@@ -27,3 +29,14 @@ bodies-preserved g c = λ program w left last outside.
     ∙ ap (λ code. under g.H.Host.meaning program t.free t.state.values.below t.frames (does program (call g.H.Host.meaning program t.free) (expression_of code) s)) (no_items t.code.now c.in_default.ensures.cases)
     ∙ ap (λ fs. under g.H.Host.meaning program t.free t.state.values.below fs (Normal s)) c.in-Some-pop.ensures
     ∙ c.resume.ensures.whole program w left last outside
+
+pub resume-requires : goal.resume-requires
+resume-requires g c =
+    let P = c.requires.0 in
+    let t = c.bodies.thread in
+    let s = state_of t.state c.requires.1 c.requires.2 c.requires.3 c.requires.4 in
+    gives_back g.H.Host.meaning P t.free t.state.values.below c.in-Some-pop.frame c.pop.new.self s (subst NotStuck
+    (c.bodies.invariant P c.requires.1 c.requires.2 c.requires.3 c.requires.4
+    ∙ ap (λ code. under g.H.Host.meaning P t.free t.state.values.below t.frames (does P (call g.H.Host.meaning P t.free) (expression_of code) s)) (no_items t.code.now c.in_default.ensures.cases)
+    ∙ ap (λ fs. under g.H.Host.meaning P t.free t.state.values.below fs (Normal s)) c.in-Some-pop.ensures)
+    c.requires.5)

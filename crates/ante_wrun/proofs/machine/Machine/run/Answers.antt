@@ -17,13 +17,13 @@ pub returns-clause-ends : goal.returns-clause-ends
 returns-clause-ends g c =
     let h = subst (λ m. ByEvents g.P.Stop.may c.args.stop.now c.run_module.new.stop (λ events. (v : Outside) → Begins v events →
     RunAnswers g.H.Host.stands (run_of g.H.Host.meaning (tree_of m) c.args.args c.args.host.now c.args.left.now v) c.run_module.result c.run_module.new.host c.run_module.new.left (past v events)))
-    c.module.ensures.module c.run_module.ensures in
+    c.module.ensures.module c.run_module.ensures.ends in
     (h.0, h.1, λ v b. (h.2 v b, counted g.P.Stop.may g.P.Stop.looks g.met.P.Stop.counted h.0 c.args.stop.now c.run_module.new.stop h.1 v))
 
 pub returns-clause-undisturbed : goal.returns-clause-undisturbed
 returns-clause-undisturbed g c = λ never.
     let h = subst (λ m. ByEvents g.P.Stop.may c.args.stop.now c.run_module.new.stop (λ events. (v : Outside) → Begins v events →
     RunAnswers g.H.Host.stands (run_of g.H.Host.meaning (tree_of m) c.args.args c.args.host.now c.args.left.now v) c.run_module.result c.run_module.new.host c.run_module.new.left (past v events)))
-    c.module.ensures.module c.run_module.ensures in
+    c.module.ensures.module c.run_module.ensures.ends in
     ok_ends g.H.Host.stands (run_of g.H.Host.meaning (tree_of c.args.module.now) c.args.args c.args.host.now c.args.left.now undisturbed) c.run_module.result c.run_module.new.host c.run_module.new.left (past undisturbed h.0)
     (h.2 undisturbed (begins_calm g.P.Stop.may never h.0 c.args.stop.now c.run_module.new.stop h.1 undisturbed (λ n. refl, λ n. refl, λ n. refl)))

@@ -10,6 +10,6 @@ later w x = record { below = w.below; locals = w.locals; stack = x ∷ popped w.
 pub returns : goal.returns
 returns c =
     let v = c.args.self.now in
-    c.replace.ensures
+    c.put.ensures
     ∙ ap (λ w. later w c.args.value) c.keep.ensures
     ∙ ap (λ r. record { below = v.below; locals = v.locals; stack = c.args.value ∷ r }) (kept_answer c.height-height.result c.args.count v.stack c.height-height.ensures c.requires)

@@ -1,0 +1,66 @@
+-- The digest of the state: the SHA-256 of its lists, one after the other, each in the order of its keys.
+use Rattle.std.specs.Prelude.{ℕ, ℤ, negsuc, List, [], ◌∷◌, ◌++◌, map}
+use Rattle.std.specs.Option.{unwrap_or}
+use Rattle.std.specs.FinMap.Entries.{find}
+use Rattle.sha2.specs.Sha256.{sha256}
+use Rattle.ante_undo.specs.Entries.{changed}
+use Rattle.ante_pack.specs.declared.names.Name.{Name}
+use Rattle.ante_pack.specs.declared.names.TableKey.{TableKey}
+use Rattle.ante_pack.specs.declared.authority.Level.{Level}
+use Rattle.ante_state.specs.Orders.{name_order}
+use Rattle.ante_state.specs.declared.tables.RowKey.{RowKey}
+use Rattle.ante_state.specs.declared.tables.TableRow.{TableRow}
+use Rattle.ante_state.specs.declared.tables.PrimaryRow.{PrimaryRow}
+use Rattle.ante_state.specs.declared.objects.AccountRow.{AccountRow}
+use Rattle.ante_state.specs.declared.objects.PermissionRow.{PermissionRow}
+use Rattle.ante_state.specs.declared.objects.LinkKey.{LinkKey}
+use Rattle.ante_state.specs.declared.objects.RecentKey.{RecentKey}
+use Rattle.ante_types.specs.World.{World, bills, used}
+use Rattle.ante_ram.specs.declared.parts.Share.{Share}
+use Rattle.ante_ram.specs.Usage.{entry_of}
+use Rattle.ante_digest.specs.Entries.{counted, packed_account, packed_permission, packed_link, packed_share, packed_recent, packed_reference, packed_table, packed_row}
+
+-- what an account may use: -1, which is no quota, where it has no entry
+abbrev pub quota : World → Name → ℤ
+quota w account = unwrap_or (find name_order account w.quotas) (negsuc 0)
+
+-- what each of these accounts uses and may use, but for those that use nothing and have no quota
+abbrev pub shares : World → List Name → List (Name × Share)
+shares w [] = []
+shares w (account ∷ accounts) = changed name_order (shares w accounts) account (entry_of (used w account) (quota w account))
+
+-- an account that no bill and no quota names uses nothing and has no quota
+abbrev pub usage_of : World → List (Name × Share)
+usage_of w = shares w (map (λ bill. bill.0) (bills w) ++ map (λ e. e.0) w.quotas)
+
+-- the lists of the digest
+pub record Lists : Type 0 where
+  pub accounts : List (Name × AccountRow)
+  pub permissions : List (Level × PermissionRow)
+  pub links : List (LinkKey × Name)
+  pub usage : List (Name × Share)
+  pub recent : List (RecentKey × Unit {0})
+  pub references : List (ℕ × List ℕ)
+  pub tables : List (TableKey × TableRow)
+  pub rows : List (RowKey × PrimaryRow)
+
+-- the last three are the rows of the secondary indexes, of which there are none
+abbrev pub packed_lists : Lists → List ℕ
+packed_lists s =
+    counted packed_account s.accounts ++ counted packed_permission s.permissions ++ counted packed_link s.links ++ counted packed_share s.usage
+    ++ counted packed_recent s.recent ++ counted packed_reference s.references ++ counted packed_table s.tables ++ counted packed_row s.rows ++ 0 ∷ 0 ∷ 0 ∷ []
+
+abbrev pub lists_of : World → Lists
+lists_of w = record {
+  accounts = w.accounts;
+  permissions = w.permissions;
+  links = w.links;
+  usage = usage_of w;
+  recent = w.recent;
+  references = w.references;
+  tables = w.tables;
+  rows = w.rows;
+}
+
+unfoldable pub state_digest : World → List ℕ
+state_digest w = sha256 (packed_lists (lists_of w))

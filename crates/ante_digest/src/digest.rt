@@ -1,0 +1,46 @@
+ghost use Rattle.std.specs.Prelude.{◌≡◌, ◌++◌, [], ◌∷◌};
+ghost use Rattle.sha2.specs.Sha256.{sha256};
+ghost use Rattle.ante_digest.specs.Feeds.{Feeds};
+ghost use Rattle.ante_digest.specs.Entries.{counted, packed_account, packed_permission, packed_link, packed_share, packed_recent, packed_reference, packed_table, packed_row};
+ghost use Rattle.ante_digest.specs.Digest.{packed_lists};
+
+use crate::feeding::feed_raw;
+use crate::listed::feed_list;
+use crate::lists::{Accounts, AllRows, Links, Permissions, Recent, References, Shares, Tables};
+use ante_objects::Objects;
+use ante_ram::Usage;
+use ante_rows::Rows;
+use sha2::{Digest, Sha256};
+
+/// The SHA-256 of all lists of the state, each a varuint count and the entries in the order of their keys: accounts,
+/// permissions, links, usage, recent transactions, references, tables, primary rows, and three lists of index rows, which
+/// are empty.
+pub fn digest_of_parts(objects: &Objects, usage: &Usage, rows: &Rows) -> [u8; 32]
+    ensures { result ≡ sha256 (packed_lists (record { accounts = objects.now.top.accounts; permissions = objects.now.top.permissions; links = objects.now.top.links; usage = usage.now.top; recent = objects.now.top.recent; references = objects.now.top.references; tables = rows.now.top.tables; rows = rows.now.top.rows })) }
+{
+    let mut hasher = Sha256::new();
+    feed_holders(&mut hasher, objects, usage);
+    feed_history(&mut hasher, objects, rows);
+    hasher.finalize()
+}
+
+#[tactic(auto, using(crate::proofs::Fed::onto))]
+fn feed_holders(hasher: &mut Sha256, objects: &Objects, usage: &Usage)
+    ensures { Feeds hasher.old hasher.new (counted packed_account objects.now.top.accounts ++ counted packed_permission objects.now.top.permissions ++ counted packed_link objects.now.top.links ++ counted packed_share usage.now.top) }
+{
+    feed_list(hasher, &Accounts(objects));
+    feed_list(hasher, &Permissions(objects));
+    feed_list(hasher, &Links(objects));
+    feed_list(hasher, &Shares(usage));
+}
+
+#[tactic(auto, using(crate::proofs::Fed::onto))]
+fn feed_history(hasher: &mut Sha256, objects: &Objects, rows: &Rows)
+    ensures { Feeds hasher.old hasher.new (counted packed_recent objects.now.top.recent ++ counted packed_reference objects.now.top.references ++ counted packed_table rows.now.top.tables ++ counted packed_row rows.now.top.rows ++ 0 ∷ 0 ∷ 0 ∷ []) }
+{
+    feed_list(hasher, &Recent(objects));
+    feed_list(hasher, &References(objects));
+    feed_list(hasher, &Tables(rows));
+    feed_list(hasher, &AllRows(rows));
+    feed_raw(hasher, &[0, 0, 0]);
+}

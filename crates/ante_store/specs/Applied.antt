@@ -1,0 +1,39 @@
+-- What a change makes of the parts that a world stands for.
+use Rattle.std.specs.Prelude.{◌≡◌, ◌+◌, ◌<◌, ◌^◌, ℕ, List, Result, Ok, Err, None}
+use Rattle.ante_pack.specs.declared.names.Name.{Name}
+use Rattle.ante_rows.specs.declared.rows.RowsMap.{RowsMap}
+use Rattle.ante_objects.specs.declared.objects.ObjectsMap.{ObjectsMap}
+use Rattle.ante_ram.specs.declared.parts.Share.{Share}
+use Rattle.ante_ram.specs.Usage.{usage_sum}
+use Rattle.ante_store.specs.declared.change.Change.{Change}
+use Rattle.ante_store.specs.declared.change.WriteError.{WriteError}
+use Rattle.ante_store.specs.declared.change.WriteError.TheVariants as error
+use Rattle.ante_store.specs.Bills.{sizes}
+use Rattle.ante_store.specs.Changes.{after, refusal, IsCause}
+use Rattle.ante_store.specs.Worlds.{Maps, world_of, IsBilled}
+
+-- a change of the one half of the maps beside usage
+abbrev pub in_rows : (RowsMap → RowsMap) → Maps → Maps
+in_rows change m = ((change m.0.0, m.0.1), m.1)
+
+abbrev pub in_objects : (ObjectsMap → ObjectsMap) → Maps → Maps
+in_objects change m = ((m.0.0, change m.0.1), m.1)
+
+-- the change was granted and is made, with its bills
+pub record IsMade (c : Change) (old new : Maps) : Type 0 where
+  pub granted : refusal c (world_of old) ≡ None
+  pub world : world_of new ≡ after c (world_of old)
+  pub billed : IsBilled new
+
+-- it is made, or the answer says why not
+abbrev pub Answers : Change → Maps → Maps → Result (Unit {0}) WriteError → Type 0
+Answers c old new (Ok done) = IsMade c old new
+Answers c old new (Err e) = IsCause c (world_of old) e
+
+-- usage can't take the bills in: memory is wanting, or all together would use more than 2^62 bytes
+abbrev pub IsUnpaid : (gone come : List (Name × ℕ)) → List (Name × Share) → WriteError → Type 0
+IsUnpaid gone come shares error.OutOfMemory = Unit {0}
+IsUnpaid gone come shares error.RamTotal = 2 ^ 62 + sizes gone < usage_sum shares + sizes come
+IsUnpaid gone come shares error.WriteRefused = ⊥
+IsUnpaid gone come shares error.Missing = ⊥
+IsUnpaid gone come shares error.Exists = ⊥
