@@ -209,8 +209,8 @@ fn a_valid_module_is_lent(rt: HostRuntime) -> Result<(), Fail> {
 /// The deepest nesting that is decoded.
 const DEPTH: u32 = 1_024;
 
-/// Two instructions each, and about as many as fit into a code.
-const PAIRS_IN_A_CODE: u32 = 30_000;
+/// Pairs of three bytes each, and about as many as fit into a code of 1 MiB.
+const PAIRS_IN_A_CODE: u32 = 349_000;
 
 fn nested(alloc: Heap) -> Result<Vec<Instr>, Fail> {
     let mut body = Vec::new(alloc);

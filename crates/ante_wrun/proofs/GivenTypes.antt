@@ -1,5 +1,5 @@
 -- A function of the host's that a valid module has is of the type that hosts give the function of its number.
-use Rattle.std.proofs.Common.{◌≡◌, ℕ, zero, suc, ◌<◌, Bool, true, false, nat_lt, cond, List, [], ◌∷◌, ◌++◌, length, get_or, Option, None, Some, slice_get, refl, sym, ap, subst, ◌∙◌, arith, ltb-true}
+use Rattle.std.proofs.Common.{◌≡◌, ℕ, zero, suc, ◌<◌, Bool, true, false, nat_lt, cond, List, [], ◌∷◌, ◌++◌, length, get_or, Option, None, Some, slice_get, refl, sym, ap, subst, ◌∙◌, ltb-true}
 use Rattle.std.specs.List.{position_or_len}
 use Rattle.std.specs.Str.{bytes_eq}
 use Rattle.std.proofs.lemmas.Slice.Eq.{bytes_eq-Decides}
@@ -15,9 +15,10 @@ use Rattle.ante_wtree.specs.Trees.{Tree, Body}
 use Rattle.ante_wvalid.specs.declared.kinds.InvalidKind.TheVariants as invalid
 use Rattle.ante_wvalid.specs.Typing.{kinds_of}
 use Rattle.ante_wvalid.specs.Modules.{HasHostType, IsValid}
-use Rattle.ante_wrun.specs.Meaning.{FunctionInstance, Own, Given, Missing, result_of}
-use Rattle.ante_wrun.specs.Instances.{given, given_as, given_functions, host_place, own, own_functions, program_in}
+use Rattle.ante_wrun.specs.Meaning.{Given, result_of}
+use Rattle.ante_wrun.specs.Instances.{given, given_as, given_functions, host_place, own_functions, program_in}
 use Rattle.ante_wrun.specs.Given.{HaveHostTypes}
+use Rattle.ante_wrun.proofs.Reached.{none_given}
 
 -- ---- types that can't differ are equal
 
@@ -82,17 +83,6 @@ given_is (Some t) (Some n) kind number h = (cc, cc)
 one_result : (r : Option ValueKind) (ks : List ValueKind) → ks ≡ kinds_of r → result_of ks ≡ r
 one_result None ks h = ap result_of h
 one_result (Some k) ks h = ap result_of h
-
-own_is_own : (o : Option FuncType) (b : Body) (kind : FuncType) (number : ℕ) → own o b ≡ Given kind number → ⊥
-own_is_own None b kind number h = cc
-own_is_own (Some t) b kind number h = cc
-
-none_given : (types : List FuncType) (kinds : List ℕ) (bodies : List Body) (f : ℕ) (kind : FuncType) (number : ℕ) →
-    slice_get (own_functions types kinds bodies) f ≡ Some (Given kind number) → ⊥
-none_given types [] bodies f kind number h = cc
-none_given types (k ∷ ks) [] f kind number h = cc
-none_given types (k ∷ ks) (b ∷ bs) zero kind number h = own_is_own (slice_get types k) b kind number (cc)
-none_given types (k ∷ ks) (b ∷ bs) (suc f) kind number h = none_given types ks bs f kind number h
 
 -- an import of a host's type, as the program has it
 import_type : OneNumber → (types : List FuncType) (i : Import) (k : ℕ) (kind : FuncType) (number : ℕ) → i.kind ≡ import.Function k →

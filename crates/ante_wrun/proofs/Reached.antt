@@ -69,7 +69,7 @@ own_is_own : (o : Option FuncType) (b : Body) (kind : FuncType) (number : ℕ) �
 own_is_own None b kind number h = cc
 own_is_own (Some t) b kind number h = cc
 
-none_given : (types : List FuncType) (kinds : List ℕ) (bodies : List Body) (f : ℕ) (kind : FuncType) (number : ℕ) →
+pub none_given : (types : List FuncType) (kinds : List ℕ) (bodies : List Body) (f : ℕ) (kind : FuncType) (number : ℕ) →
     slice_get (own_functions types kinds bodies) f ≡ Some (Given kind number) → ⊥
 none_given types [] bodies f kind number h = cc
 none_given types (k ∷ ks) [] f kind number h = cc

@@ -1,4 +1,4 @@
-use Rattle.std.proofs.Common.{subst, ap}
+use Rattle.std.proofs.Common.{subst}
 use Rattle.ante_wtree.specs.Trees.{tree_of}
 use Rattle.ante_wrun.specs.Instances.{program_in}
 use Rattle.ante_wrun.specs.Given.{HaveHostTypes}
