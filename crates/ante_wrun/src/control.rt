@@ -9,7 +9,7 @@ ghost use Rattle.ante_wrun.specs.Runs.{NotStuck};
 
 use crate::data::low;
 use crate::ends::TrapKind;
-use crate::plain::plain;
+use crate::plain::{Tried, plain_with_room};
 use crate::thread::{Frame, Thread, branch, leave};
 use ante_wmem::Host;
 use ante_wtree::{FuncType, Instr, Shape, ValueKind, shape_of};
@@ -171,7 +171,8 @@ pub(crate) fn call_function<'a, H: Host>(
     match functions.all[at as usize] {
         Function::Own { kind, locals, body } => { enter::<H>(thread, alloc, kind, locals, body) }
         Function::Host { kind, number } => {
-            thread.state.values.push(alloc, 0)?;
+            thread.state.values.make_room(alloc)?;
+            thread.state.values.push(0)?;
             Ok(Next::HostCall(kind, number))
         }
         Function::Missing => unreachable!(),
@@ -224,7 +225,7 @@ fn grow<'a, H: Host>(
         return Ok(Next::StepLimit);
     }
     let answer = thread.state.memory.grow(alloc, pages)?;
-    thread.state.values.push(alloc, u64::from(answer))?;
+    thread.state.values.push(u64::from(answer))?;
     if grows {
         *left -= u64::from(pages);
     }
@@ -263,9 +264,10 @@ pub(crate) fn act<'a, H: Host>(
         next thread.new w left.new last outside) }
 {
     match shape_of(instr) {
-        Shape::Plain(op) => match plain(&mut thread.state, alloc, op)? {
-            None => Ok(Next::Go),
-            Some(kind) => Ok(Next::Trap(kind)),
+        Shape::Plain(_) => match plain_with_room(&mut thread.state, alloc, instr) {
+            Tried::Done => Ok(Next::Go),
+            Tried::Trap(kind) => Ok(Next::Trap(kind)),
+            Tried::Untouched => Err(AllocError),
         },
         Shape::Block(kind, body) => {
             let height = thread.state.values.height();

@@ -46,7 +46,8 @@ fn operands(alloc: Global, args: &[u64]) -> Result<ValueStack, AllocError>
     let mut values = ValueStack::new(alloc);
     let mut rest = args;
     'each: while let Some((value, tail)) = rest.split_first() {
-        values.push(alloc, *value)?;
+        values.make_room(alloc)?;
+        values.push(*value)?;
         rest = tail;
     }
     Ok(values)

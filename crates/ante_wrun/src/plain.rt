@@ -1,223 +1,261 @@
 //! The plain instructions (sections 4.4.1 to 4.4.4).
-ghost use Rattle.std.specs.Prelude.{◌≡◌, ◌<◌, ◌≤◌, true, length, None, IfOk};
-ghost use Rattle.ante_wrun.specs.Effects.{gives, operands, finds, done, popped};
-ghost use Rattle.ante_wrun.specs.Machine.{values_of, Does};
+ghost use Rattle.std.specs.Prelude.{◌≡◌, ◌<◌, ◌≤◌, ℕ, List, length};
+ghost use Rattle.ante_wmem.specs.Linear.{LinearMemory};
+ghost use Rattle.ante_wrun.specs.Effects.{gives, done, popped};
+ghost use Rattle.ante_wrun.specs.Machine.{values_in, values_of, Tries, TriesPlain, Ready, plain_of};
 
 use crate::data::{Data, extended, load_width, low, store_width, trap_of};
 use crate::ends::TrapKind;
+use crate::values::ValueStack;
+use ante_wmem::Memory;
 use ante_wnum::{
     Binary, Compare, Unary, i32_binary, i32_compare, i32_unary, i64_binary, i64_compare, i64_unary,
 };
-use ante_wtree::{LoadKind, MemArg, PlainInstr, StoreKind};
-use std::alloc::{AllocError, Global};
+use ante_wtree::{Instr, LoadKind, MemArg, PlainInstr, StoreKind};
+use std::alloc::Global;
 
-/// Why a plain instruction has no answer, if it hasn't; an `Err` is want of memory.
-type Trapped = Result<Option<TrapKind>, AllocError>;
+/// What became of an instruction.
+#[derive(Clone, Copy)]
+pub(crate) enum Tried {
+    Done,
+    Trap(TrapKind),
+    /// It isn't plain, or there is no room for its answer.
+    Untouched,
+}
 
 /// Puts an answer on top of the operands.
 #[inline(always)]
-fn give(state: &mut Data, alloc: Global, answer: u64) -> Trapped
-    ensures effect { IfOk result (λ trap. Does (gives (values_of state.old) state.old.values.stack answer) trap state.old state.new) }
-    ensures below { IfOk result (λ trap. state.new.values.below ≡ state.old.values.below) }
+fn give(values: &mut ValueStack, answer: u64) -> Tried
+    ensures effect { (globals : List ℕ) (memory : LinearMemory) → let old = values_in values.old globals memory in
+        Tries (gives old values.old.stack answer) result old (values_in values.new globals memory) }
+    ensures below { values.new.below ≡ values.old.below }
 {
-    state.values.push(alloc, answer)?;
-    Ok(None)
-}
-
-#[inline(always)]
-fn select(state: &mut Data)
-    requires { 2 < length state.old.values.stack }
-    ensures effect { Does (done PlainInstr.Select (values_of state.old)) None state.old state.new }
-    ensures below { state.new.values.below ≡ state.old.values.below }
-{
-    let test = low(state.values.pop());
-    let two = state.values.pop();
-    let one = state.values.top();
-    let chosen = if test == 0 { two } else { one };
-    state.values.put(chosen);
-}
-
-#[inline(always)]
-fn load(state: &mut Data, kind: LoadKind, at: MemArg) -> Option<TrapKind>
-    requires { 0 < length state.old.values.stack }
-    ensures effect { Does (done (PlainInstr.Load kind at) (values_of state.old)) result state.old state.new }
-    ensures below { state.new.values.below ≡ state.old.values.below }
-{
-    let address = low(state.values.top());
-    let Ok(bits) = state.memory.load(address, at.offset, load_width(kind)) else {
-        return Some(TrapKind::OutOfBounds);
-    };
-    state.values.put(extended(kind, bits));
-    None
-}
-
-#[inline(always)]
-fn store(state: &mut Data, kind: StoreKind, at: MemArg) -> Option<TrapKind>
-    requires { 1 < length state.old.values.stack }
-    ensures effect { Does (done (PlainInstr.Store kind at) (values_of state.old)) result state.old state.new }
-    ensures below { state.new.values.below ≡ state.old.values.below }
-{
-    let value = state.values.pop();
-    let address = low(state.values.pop());
-    match state
-        .memory
-        .store(address, at.offset, store_width(kind), value)
-    {
-        Ok(()) => None,
-        Err(_) => Some(TrapKind::OutOfBounds),
+    match values.push(answer) {
+        Ok(()) => Tried::Done,
+        Err(_) => Tried::Untouched,
     }
-}
-
-#[inline(always)]
-fn binary_32(state: &mut Data, op: Binary) -> Option<TrapKind>
-    requires { 1 < length state.old.values.stack }
-    ensures effect { Does (done (PlainInstr.I32Binary op) (values_of state.old)) result state.old state.new }
-    ensures below { state.new.values.below ≡ state.old.values.below }
-{
-    let two = low(state.values.pop());
-    let one = low(state.values.top());
-    match i32_binary(op, one, two) {
-        Ok(answer) => {
-            state.values.put(u64::from(answer));
-            None
-        }
-        Err(kind) => Some(trap_of(kind)),
-    }
-}
-
-#[inline(always)]
-fn binary_64(state: &mut Data, op: Binary) -> Option<TrapKind>
-    requires { 1 < length state.old.values.stack }
-    ensures effect { Does (done (PlainInstr.I64Binary op) (values_of state.old)) result state.old state.new }
-    ensures below { state.new.values.below ≡ state.old.values.below }
-{
-    let two = state.values.pop();
-    let one = state.values.top();
-    match i64_binary(op, one, two) {
-        Ok(answer) => {
-            state.values.put(answer);
-            None
-        }
-        Err(kind) => Some(trap_of(kind)),
-    }
-}
-
-#[inline(always)]
-fn compare_32(state: &mut Data, op: Compare)
-    requires { 1 < length state.old.values.stack }
-    ensures effect { Does (done (PlainInstr.I32Compare op) (values_of state.old)) None state.old state.new }
-    ensures below { state.new.values.below ≡ state.old.values.below }
-{
-    let two = low(state.values.pop());
-    let one = low(state.values.top());
-    state.values.put(u64::from(i32_compare(op, one, two)));
-}
-
-#[inline(always)]
-fn compare_64(state: &mut Data, op: Compare)
-    requires { 1 < length state.old.values.stack }
-    ensures effect { Does (done (PlainInstr.I64Compare op) (values_of state.old)) None state.old state.new }
-    ensures below { state.new.values.below ≡ state.old.values.below }
-{
-    let two = state.values.pop();
-    let one = state.values.top();
-    state.values.put(u64::from(i64_compare(op, one, two)));
 }
 
 /// Puts an answer in place of the topmost operand.
 #[inline(always)]
-fn give_for_one(state: &mut Data, answer: u64) -> Trapped
-    requires { 0 < length state.old.values.stack }
-    ensures effect { IfOk result (λ trap. Does (gives (values_of state.old) (popped state.old.values.stack) answer) trap state.old state.new) }
-    ensures below { IfOk result (λ trap. state.new.values.below ≡ state.old.values.below) }
+fn give_for_one(values: &mut ValueStack, answer: u64) -> Tried
+    requires { 0 < length values.old.stack }
+    ensures effect { (globals : List ℕ) (memory : LinearMemory) → let old = values_in values.old globals memory in
+        Tries (gives old (popped values.old.stack) answer) result old (values_in values.new globals memory) }
+    ensures below { values.new.below ≡ values.old.below }
 {
-    state.values.put(answer);
-    Ok(None)
+    values.put(answer);
+    Tried::Done
 }
 
-/// Executes a plain instruction.
 #[inline(always)]
-pub(crate) fn plain(state: &mut Data, alloc: Global, instr: PlainInstr) -> Trapped
-    requires operands { operands instr ≤ length state.old.values.stack }
-    requires place { finds instr (values_of state.old) ≡ true }
-    ensures effect { IfOk result (λ trap. Does (done instr (values_of state.old)) trap state.old state.new) }
-    ensures below { IfOk result (λ trap. state.new.values.below ≡ state.old.values.below) }
+fn select(values: &mut ValueStack) -> Tried
+    requires { 2 < length values.old.stack }
+    ensures effect { (globals : List ℕ) (memory : LinearMemory) → let old = values_in values.old globals memory in
+        Tries (done PlainInstr.Select old) result old (values_in values.new globals memory) }
+    ensures below { values.new.below ≡ values.old.below }
+{
+    let test = low(values.pop());
+    let two = values.pop();
+    let one = values.top();
+    let chosen = if test == 0 { two } else { one };
+    values.put(chosen);
+    Tried::Done
+}
+
+#[inline(always)]
+fn load(values: &mut ValueStack, memory: &Memory, kind: LoadKind, at: MemArg) -> Tried
+    requires { 0 < length values.old.stack }
+    ensures effect { (globals : List ℕ) → let old = values_in values.old globals memory.now in
+        Tries (done (PlainInstr.Load kind at) old) result old (values_in values.new globals memory.now) }
+    ensures below { values.new.below ≡ values.old.below }
+{
+    let address = low(values.top());
+    let Ok(bits) = memory.load(address, at.offset, load_width(kind)) else {
+        return Tried::Trap(TrapKind::OutOfBounds);
+    };
+    values.put(extended(kind, bits));
+    Tried::Done
+}
+
+#[inline(always)]
+fn store(values: &mut ValueStack, memory: &mut Memory, kind: StoreKind, at: MemArg) -> Tried
+    requires { 1 < length values.old.stack }
+    ensures effect { (globals : List ℕ) → let old = values_in values.old globals memory.old in
+        Tries (done (PlainInstr.Store kind at) old) result old (values_in values.new globals memory.new) }
+    ensures below { values.new.below ≡ values.old.below }
+{
+    let value = values.pop();
+    let address = low(values.pop());
+    match memory.store(address, at.offset, store_width(kind), value) {
+        Ok(()) => Tried::Done,
+        Err(_) => Tried::Trap(TrapKind::OutOfBounds),
+    }
+}
+
+#[inline(always)]
+fn binary_32(values: &mut ValueStack, op: Binary) -> Tried
+    requires { 1 < length values.old.stack }
+    ensures effect { (globals : List ℕ) (memory : LinearMemory) → let old = values_in values.old globals memory in
+        Tries (done (PlainInstr.I32Binary op) old) result old (values_in values.new globals memory) }
+    ensures below { values.new.below ≡ values.old.below }
+{
+    let two = low(values.pop());
+    let one = low(values.top());
+    match i32_binary(op, one, two) {
+        Ok(answer) => {
+            values.put(u64::from(answer));
+            Tried::Done
+        }
+        Err(kind) => Tried::Trap(trap_of(kind)),
+    }
+}
+
+#[inline(always)]
+fn binary_64(values: &mut ValueStack, op: Binary) -> Tried
+    requires { 1 < length values.old.stack }
+    ensures effect { (globals : List ℕ) (memory : LinearMemory) → let old = values_in values.old globals memory in
+        Tries (done (PlainInstr.I64Binary op) old) result old (values_in values.new globals memory) }
+    ensures below { values.new.below ≡ values.old.below }
+{
+    let two = values.pop();
+    let one = values.top();
+    match i64_binary(op, one, two) {
+        Ok(answer) => {
+            values.put(answer);
+            Tried::Done
+        }
+        Err(kind) => Tried::Trap(trap_of(kind)),
+    }
+}
+
+#[inline(always)]
+fn compare_32(values: &mut ValueStack, op: Compare) -> Tried
+    requires { 1 < length values.old.stack }
+    ensures effect { (globals : List ℕ) (memory : LinearMemory) → let old = values_in values.old globals memory in
+        Tries (done (PlainInstr.I32Compare op) old) result old (values_in values.new globals memory) }
+    ensures below { values.new.below ≡ values.old.below }
+{
+    let two = low(values.pop());
+    let one = low(values.top());
+    values.put(u64::from(i32_compare(op, one, two)));
+    Tried::Done
+}
+
+#[inline(always)]
+fn compare_64(values: &mut ValueStack, op: Compare) -> Tried
+    requires { 1 < length values.old.stack }
+    ensures effect { (globals : List ℕ) (memory : LinearMemory) → let old = values_in values.old globals memory in
+        Tries (done (PlainInstr.I64Compare op) old) result old (values_in values.new globals memory) }
+    ensures below { values.new.below ≡ values.old.below }
+{
+    let two = values.pop();
+    let one = values.top();
+    values.put(u64::from(i64_compare(op, one, two)));
+    Tried::Done
+}
+
+/// Executes a plain instruction; where there is no room for its answer, or the instruction isn't plain, nothing is done.
+#[inline(always)]
+pub(crate) fn plain(
+    values: &mut ValueStack,
+    globals: &mut Vec<u64>,
+    memory: &mut Memory,
+    instr: &Instr,
+) -> Tried
+    requires ready { Ready (plain_of instr.now) (values_in values.old globals.old.items memory.old) }
+    ensures effect { TriesPlain (plain_of instr.now) result (values_in values.old globals.old.items memory.old) (values_in values.new globals.new.items memory.new) }
+    ensures below { values.new.below ≡ values.old.below }
 {
     match instr {
-        PlainInstr::LocalGet(n) => {
-            let value = state.values.local(n);
-            give(state, alloc, value)
+        Instr::LocalGet(n) => {
+            let value = values.local(*n);
+            give(values, value)
         }
-        PlainInstr::LocalSet(n) => {
-            let value = state.values.pop();
-            state.values.set_local(n, value);
-            Ok(None)
+        Instr::LocalSet(n) => {
+            let value = values.pop();
+            values.set_local(*n, value);
+            Tried::Done
         }
-        PlainInstr::LocalTee(n) => {
-            let value = state.values.top();
-            state.values.set_local(n, value);
-            Ok(None)
+        Instr::LocalTee(n) => {
+            let value = values.top();
+            values.set_local(*n, value);
+            Tried::Done
         }
-        PlainInstr::I32Binary(op) => Ok(binary_32(state, op)),
-        PlainInstr::I64Binary(op) => Ok(binary_64(state, op)),
-        PlainInstr::I32Compare(op) => {
-            compare_32(state, op);
-            Ok(None)
+        Instr::I32Binary(op) => binary_32(values, *op),
+        Instr::I64Binary(op) => binary_64(values, *op),
+        Instr::I32Compare(op) => compare_32(values, *op),
+        Instr::I64Compare(op) => compare_64(values, *op),
+        Instr::Load(kind, at) => load(values, memory, *kind, *at),
+        Instr::Store(kind, at) => store(values, memory, *kind, *at),
+        Instr::Unreachable => Tried::Trap(TrapKind::Unreachable),
+        Instr::I32Const(n) => give(values, u64::from(*n)),
+        Instr::I64Const(n) => give(values, *n),
+        Instr::GlobalGet(n) => {
+            let value = globals[*n as usize];
+            give(values, value)
         }
-        PlainInstr::I64Compare(op) => {
-            compare_64(state, op);
-            Ok(None)
+        Instr::GlobalSet(n) => {
+            let value = values.pop();
+            globals[*n as usize] = value;
+            Tried::Done
         }
-        PlainInstr::Load(kind, at) => Ok(load(state, kind, at)),
-        PlainInstr::Store(kind, at) => Ok(store(state, kind, at)),
-        PlainInstr::Unreachable => Ok(Some(TrapKind::Unreachable)),
-        PlainInstr::I32Const(n) => give(state, alloc, u64::from(n)),
-        PlainInstr::I64Const(n) => give(state, alloc, n),
-        PlainInstr::GlobalGet(n) => {
-            let value = state.globals[n as usize];
-            give(state, alloc, value)
+        Instr::MemorySize => {
+            let pages = memory.pages();
+            give(values, u64::from(pages))
         }
-        PlainInstr::GlobalSet(n) => {
-            let value = state.values.pop();
-            state.globals[n as usize] = value;
-            Ok(None)
+        Instr::Drop => {
+            let _ = values.pop();
+            Tried::Done
         }
-        PlainInstr::MemorySize => {
-            let pages = state.memory.pages();
-            give(state, alloc, u64::from(pages))
+        Instr::Select => select(values),
+        Instr::Nop => Tried::Done,
+        Instr::I32Eqz => {
+            let operand = low(values.top());
+            give_for_one(values, u64::from(operand == 0))
         }
-        PlainInstr::Drop => {
-            let _ = state.values.pop();
-            Ok(None)
+        Instr::I64Eqz => {
+            let operand = values.top();
+            give_for_one(values, u64::from(operand == 0))
         }
-        PlainInstr::Select => {
-            select(state);
-            Ok(None)
+        Instr::I32Unary(op) => {
+            let operand = low(values.top());
+            give_for_one(values, u64::from(i32_unary(*op, operand)))
         }
-        PlainInstr::Nop => Ok(None),
-        PlainInstr::I32Eqz => {
-            let operand = low(state.values.top());
-            give_for_one(state, u64::from(operand == 0))
+        Instr::I64Unary(op) => {
+            let operand = values.top();
+            give_for_one(values, i64_unary(*op, operand))
         }
-        PlainInstr::I64Eqz => {
-            let operand = state.values.top();
-            give_for_one(state, u64::from(operand == 0))
+        Instr::I64ExtendI32S => {
+            let operand = low(values.top());
+            give_for_one(values, extended(LoadKind::I64S32, u64::from(operand)))
         }
-        PlainInstr::I32Unary(op) => {
-            let operand = low(state.values.top());
-            give_for_one(state, u64::from(i32_unary(op, operand)))
+        Instr::I32WrapI64 | Instr::I64ExtendI32U => {
+            let operand = low(values.top());
+            give_for_one(values, u64::from(operand))
         }
-        PlainInstr::I64Unary(op) => {
-            let operand = state.values.top();
-            give_for_one(state, i64_unary(op, operand))
-        }
-        PlainInstr::I64ExtendI32S => {
-            let operand = low(state.values.top());
-            give_for_one(state, extended(LoadKind::I64S32, u64::from(operand)))
-        }
-        PlainInstr::I32WrapI64 | PlainInstr::I64ExtendI32U => {
-            let operand = low(state.values.top());
-            give_for_one(state, u64::from(operand))
-        }
+        Instr::Block(..)
+        | Instr::Loop(..)
+        | Instr::If(..)
+        | Instr::Br(_)
+        | Instr::BrIf(_)
+        | Instr::BrTable(..)
+        | Instr::Return
+        | Instr::Call(_)
+        | Instr::CallIndirect(_)
+        | Instr::MemoryGrow => Tried::Untouched,
     }
+}
+
+/// The same, where room is made first.
+#[inline(never)]
+pub(crate) fn plain_with_room(state: &mut Data, alloc: Global, instr: &Instr) -> Tried
+    requires ready { Ready (plain_of instr.now) (values_of state.old) }
+    ensures effect { TriesPlain (plain_of instr.now) result (values_of state.old) (values_of state.new) }
+    ensures below { state.new.values.below ≡ state.old.values.below }
+{
+    if state.values.make_room(alloc).is_err() {
+        return Tried::Untouched;
+    }
+    plain(&mut state.values, &mut state.globals, &mut state.memory, instr)
 }

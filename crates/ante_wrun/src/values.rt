@@ -3,6 +3,7 @@ ghost use Rattle.std.specs.Prelude.{◌≡◌, ◌+◌, ◌*◌, ◌-◌, ◌^�
 ghost use Rattle.ante_wrun.specs.Effects.{top, popped};
 ghost use Rattle.ante_wrun.specs.Meaning.{keep, unwound, arity, arguments, mask, masked};
 
+use ante_slots::Slots;
 use ante_wtree::ValueKind;
 use std::alloc::{AllocError, Global};
 use std::marker::Model;
@@ -10,7 +11,7 @@ use std::marker::Model;
 /// Each frame's locals lie below its operands, and these below the next frame's locals.
 #[derive(Drop)]
 pub(crate) struct ValueStack {
-    items: Vec<u64>,
+    items: Slots,
     /// Where this frame's locals begin.
     base: usize,
     /// Where its operands begin.
@@ -24,12 +25,12 @@ impl Model for ValueStack {
     ghost Value = { FrameValues };
 
     ghost view = { λ s. record {
-      below = take s.base s.items.items;
-      locals = take (s.floor - s.base) (drop s.base s.items.items);
-      stack = reverse (drop s.floor s.items.items);
+      below = take s.base s.items;
+      locals = take (s.floor - s.base) (drop s.base s.items);
+      stack = reverse (drop s.floor s.items);
     } };
 
-    ghost invariant = { λ s. (s.base ≤ s.floor) × (s.floor ≤ length s.items.items) };
+    ghost invariant = { λ s. (s.base ≤ s.floor) × (s.floor ≤ length s.items) };
 }
 
 impl ValueStack {
@@ -37,7 +38,7 @@ impl ValueStack {
         ensures { result ≡ record { below = []; locals = []; stack = [] } }
     {
         ValueStack {
-            items: Vec::new(alloc),
+            items: Slots::new(alloc),
             base: 0,
             floor: 0,
         }
@@ -48,7 +49,7 @@ impl ValueStack {
     pub(crate) fn height(&self) -> usize
         ensures { result ≡ length self.now.stack }
     {
-        self.items.as_slice().len() - self.floor
+        self.items.len() - self.floor
     }
 
     /// How many values lie below this frame's.
@@ -64,12 +65,21 @@ impl ValueStack {
         self.floor - self.base
     }
 
+    /// Makes room for a further operand.
     #[inline(always)]
-    pub(crate) fn push(&mut self, _alloc: Global, value: u64) -> Result<(), AllocError>
-        ensures { OnOk result (self.new ≡ record self.old { stack = value ∷ self.old.stack }) }
+    pub(crate) fn make_room(&mut self, alloc: Global) -> Result<(), AllocError>
+        ensures { self.new ≡ self.old }
     {
-        self.items.push(value)?;
-        Ok(())
+        self.items.make_room(alloc, 1)
+    }
+
+    /// Puts a value on top, where there is room for it.
+    #[inline(always)]
+    pub(crate) fn push(&mut self, value: u64) -> Result<(), AllocError>
+        ensures ok { OnOk result (self.new ≡ record self.old { stack = value ∷ self.old.stack }) }
+        ensures err { OnErr result (self.new ≡ self.old) }
+    {
+        self.items.push(value)
     }
 
     /// The topmost operand.
@@ -78,7 +88,7 @@ impl ValueStack {
         requires { 0 < length self.now.stack }
         ensures { result ≡ top self.now.stack }
     {
-        self.items[self.items.as_slice().len() - 1]
+        self.items.at(self.items.len() - 1)
     }
 
     /// Takes the topmost operand off.
@@ -88,10 +98,10 @@ impl ValueStack {
         ensures value { result ≡ top self.old.stack }
         ensures rest { self.new ≡ record self.old { stack = popped self.old.stack } }
     {
-        match self.items.pop() {
-            Some(value) => value,
-            None => unreachable!(),
-        }
+        let last = self.items.len() - 1;
+        let value = self.items.at(last);
+        self.items.truncate(last);
+        value
     }
 
     /// Puts a value in place of the topmost operand.
@@ -100,8 +110,8 @@ impl ValueStack {
         requires { 0 < length self.old.stack }
         ensures { self.new ≡ record self.old { stack = value ∷ popped self.old.stack } }
     {
-        let last = self.items.as_slice().len() - 1;
-        self.items[last] = value;
+        let last = self.items.len() - 1;
+        self.items.set(last, value);
     }
 
     #[inline(always)]
@@ -109,7 +119,7 @@ impl ValueStack {
         requires { at < length self.now.locals }
         ensures { result ≡ slice_index self.now.locals at }
     {
-        self.items[self.base + at as usize]
+        self.items.at(self.base + at as usize)
     }
 
     #[inline(always)]
@@ -117,7 +127,7 @@ impl ValueStack {
         requires { at < length self.old.locals }
         ensures { self.new ≡ record self.old { locals = slice_set self.old.locals at value } }
     {
-        self.items[self.base + at as usize] = value;
+        self.items.set(self.base + at as usize, value);
     }
 
     /// Leaves the lowest operands.
@@ -139,14 +149,14 @@ impl ValueStack {
         }
         let answer = self.top();
         let at = self.floor + height;
-        self.items[at] = answer;
+        self.items.set(at, answer);
         self.items.truncate(at + 1);
     }
 
     /// Begins a frame: so many operands are its first locals, and zeros are the others.
     pub(crate) fn enter(
         &mut self,
-        _alloc: Global,
+        alloc: Global,
         params: usize,
         zeros: u32,
     ) -> Result<(), AllocError>
@@ -157,10 +167,10 @@ impl ValueStack {
           stack = [];
         }) }
     {
-        let count = self.items.as_slice().len();
-        self.items.resize(count + zeros as usize, 0)?;
+        let count = self.items.len();
+        self.items.add_zeros(alloc, zeros as usize)?;
         self.base = count - params;
-        self.floor = self.items.as_slice().len();
+        self.floor = self.items.len();
         Ok(())
     }
 
@@ -177,7 +187,7 @@ impl ValueStack {
         let end = self.base;
         if kind.is_some() {
             let answer = self.top();
-            self.items[end] = answer;
+            self.items.set(end, answer);
             self.items.truncate(end + 1);
             self.base = at_most(base, end);
             self.floor = self.base + at_most(locals, end - self.base);
@@ -196,7 +206,7 @@ impl ValueStack {
         ensures length { length self.new.stack ≡ length self.old.stack }
         ensures frames { (self.new.below ≡ self.old.below) × (self.new.locals ≡ self.old.locals) }
     {
-        let first = self.items.as_slice().len() - 1 - kinds.len();
+        let first = self.items.len() - 1 - kinds.len();
         mask_from(&mut self.items, first, kinds);
     }
 
@@ -205,7 +215,7 @@ impl ValueStack {
         requires { count < length self.now.stack }
         ensures { result.now ≡ arguments count (popped self.now.stack) }
     {
-        let end = self.items.as_slice().len() - 1;
+        let end = self.items.len() - 1;
         &self.items.as_slice()[end - count..end]
     }
 
@@ -245,14 +255,14 @@ fn mask(kind: ValueKind, value: u64) -> u64
 }
 
 /// Masks as many values as there are kinds, from a place on.
-fn mask_from(values: &mut Vec<u64>, first: usize, kinds: &[ValueKind])
-    requires { first + length kinds.now ≤ length values.old.items }
-    ensures values { values.new.items ≡ take first values.old.items ++ (masked kinds.now (take (length kinds.now) (drop first values.old.items)) ++ drop (length kinds.now) (drop first values.old.items)) }
-    ensures length { length values.new.items ≡ length values.old.items }
+fn mask_from(values: &mut Slots, first: usize, kinds: &[ValueKind])
+    requires { first + length kinds.now ≤ length values.old }
+    ensures values { values.new ≡ take first values.old ++ (masked kinds.now (take (length kinds.now) (drop first values.old)) ++ drop (length kinds.now) (drop first values.old)) }
+    ensures length { length values.new ≡ length values.old }
 {
     let (mut at, mut kind) = (first, kinds);
     'kinds: while let Some((next, rest)) = kind.split_first() {
-        values[at] = mask(*next, values[at]);
+        values.set(at, mask(*next, values.at(at)));
         at += 1;
         kind = rest;
     }

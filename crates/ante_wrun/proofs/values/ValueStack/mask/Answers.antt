@@ -4,14 +4,14 @@ use Rattle.ante_wrun.proofs.Regions.{view}
 use Rattle.ante_wrun.proofs.Masks.{masked_from, masked_arguments, masked_rest, masked_frames}
 use Rattle.ante_wrun.proofs.values.ValueStack.mask.Goals as goal
 
-changed : (xs zs ys : List ℕ) (kinds : List ValueKind) → zs ≡ xs → ys ≡ masked_from xs (length zs - 1 - length kinds) kinds → ys ≡ masked_from xs (length xs - 1 - length kinds) kinds
-changed xs zs ys kinds e y = y ∙ ap (λ z. masked_from xs (length z - 1 - length kinds) kinds) e
+changed : (xs ys : List ℕ) (n : ℕ) (kinds : List ValueKind) → n ≡ length xs → ys ≡ masked_from xs (n - 1 - length kinds) kinds → ys ≡ masked_from xs (length xs - 1 - length kinds) kinds
+changed xs ys n kinds e y = y ∙ ap (λ k. masked_from xs (k - 1 - length kinds) kinds) e
 
 pub returns-clause-arguments : goal.returns-clause-arguments
-returns-clause-arguments c = masked_arguments c.self.inside.items.items c.mask_from.new.values.items c.self.inside.base c.self.inside.floor c.args.self.now (view c.mask_from.new.values.items c.self.inside.base c.self.inside.floor) c.self.view_is refl c.self.invariant.0 c.self.invariant.1 c.mask_from.ensures.length c.args.kinds.now c.requires (changed c.self.inside.items.items c.as_slice.result.now c.mask_from.new.values.items c.args.kinds.now c.as_slice.ensures.value c.mask_from.ensures.values)
+returns-clause-arguments c = masked_arguments c.self.inside.items c.mask_from.new.values c.self.inside.base c.self.inside.floor c.args.self.now (view c.mask_from.new.values c.self.inside.base c.self.inside.floor) c.self.view_is refl c.self.invariant.0 c.self.invariant.1 c.mask_from.ensures.length c.args.kinds.now c.requires (changed c.self.inside.items c.mask_from.new.values c.len.result c.args.kinds.now c.len.ensures c.mask_from.ensures.values)
 
 pub returns-clause-rest : goal.returns-clause-rest
-returns-clause-rest c = masked_rest c.self.inside.items.items c.mask_from.new.values.items c.self.inside.base c.self.inside.floor c.args.self.now (view c.mask_from.new.values.items c.self.inside.base c.self.inside.floor) c.self.view_is refl c.self.invariant.0 c.self.invariant.1 c.mask_from.ensures.length c.args.kinds.now c.requires (changed c.self.inside.items.items c.as_slice.result.now c.mask_from.new.values.items c.args.kinds.now c.as_slice.ensures.value c.mask_from.ensures.values)
+returns-clause-rest c = masked_rest c.self.inside.items c.mask_from.new.values c.self.inside.base c.self.inside.floor c.args.self.now (view c.mask_from.new.values c.self.inside.base c.self.inside.floor) c.self.view_is refl c.self.invariant.0 c.self.invariant.1 c.mask_from.ensures.length c.args.kinds.now c.requires (changed c.self.inside.items c.mask_from.new.values c.len.result c.args.kinds.now c.len.ensures c.mask_from.ensures.values)
 
 pub returns-clause-frames : goal.returns-clause-frames
-returns-clause-frames c = masked_frames c.self.inside.items.items c.mask_from.new.values.items c.self.inside.base c.self.inside.floor c.args.self.now (view c.mask_from.new.values.items c.self.inside.base c.self.inside.floor) c.self.view_is refl c.self.invariant.0 c.self.invariant.1 c.mask_from.ensures.length c.args.kinds.now c.requires (changed c.self.inside.items.items c.as_slice.result.now c.mask_from.new.values.items c.args.kinds.now c.as_slice.ensures.value c.mask_from.ensures.values)
+returns-clause-frames c = masked_frames c.self.inside.items c.mask_from.new.values c.self.inside.base c.self.inside.floor c.args.self.now (view c.mask_from.new.values c.self.inside.base c.self.inside.floor) c.self.view_is refl c.self.invariant.0 c.self.invariant.1 c.mask_from.ensures.length c.args.kinds.now c.requires (changed c.self.inside.items c.mask_from.new.values c.len.result c.args.kinds.now c.len.ensures c.mask_from.ensures.values)

@@ -3,4 +3,4 @@ use Rattle.ante_wrun.proofs.Regions.{view, last_view}
 use Rattle.ante_wrun.proofs.values.ValueStack.put.Goals as goal
 
 pub returns : goal.returns
-returns c = ap (λ k. view (slice_set c.self.inside.items.items (k - 1) c.args.value) c.self.inside.base c.self.inside.floor) (ap length c.as_slice.ensures.value) ∙ last_view c.self.inside.items.items c.self.inside.base c.self.inside.floor c.args.self.now c.self.view_is c.self.invariant.0 c.self.invariant.1 c.args.value c.requires
+returns c = ap (λ k. view (slice_set c.self.inside.items (k - 1) c.args.value) c.self.inside.base c.self.inside.floor) c.len-last.ensures ∙ last_view c.self.inside.items c.self.inside.base c.self.inside.floor c.args.self.now c.self.view_is c.self.invariant.0 c.self.invariant.1 c.args.value c.requires

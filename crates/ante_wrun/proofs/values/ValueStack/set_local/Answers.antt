@@ -3,4 +3,4 @@ use Rattle.ante_wrun.proofs.Regions.{local_view, locals_count}
 use Rattle.ante_wrun.proofs.values.ValueStack.set_local.Goals as goal
 
 pub returns : goal.returns
-returns c = local_view c.self.inside.items.items c.self.inside.base c.self.inside.floor c.args.self.now c.self.view_is c.self.invariant.0 c.self.invariant.1 c.args.at c.args.value (omega (arith, c.requires, locals_count c.self.inside.items.items c.self.inside.base c.self.inside.floor c.args.self.now c.self.view_is c.self.invariant.0 c.self.invariant.1))
+returns c = local_view c.self.inside.items c.self.inside.base c.self.inside.floor c.args.self.now c.self.view_is c.self.invariant.0 c.self.invariant.1 c.args.at c.args.value (omega (arith, c.requires, locals_count c.self.inside.items c.self.inside.base c.self.inside.floor c.args.self.now c.self.view_is c.self.invariant.0 c.self.invariant.1))

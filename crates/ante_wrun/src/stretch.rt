@@ -1,0 +1,187 @@
+//! Stretches of instructions that no look interrupts and that want no memory: plain ones, and branches back to the
+//! innermost loop. Their values, steps and code are kept at hand until the stretch ends.
+ghost use Rattle.std.specs.Prelude.{◌≡◌, ℕ, suc, ◌+◌, ◌-◌, ◌<◌, ◌≤◌, ◌%◌, List, Option, None, Some, length};
+ghost use Rattle.ante_wtree.specs.Expressions.{put, expression_of};
+ghost use Rattle.ante_wrun.specs.Meaning.{Outside, Program, acts, call};
+ghost use Rattle.ante_wrun.specs.Machine.{state_of, under, going};
+ghost use Rattle.ante_wrun.specs.Runs.{Begins, past, NotStuck, Sound};
+ghost use Rattle.ante_wrun.specs.Stretches.{stepping, Quietly, goes, BranchLeads, MoveLeads, StretchLeads, HurryLeads};
+
+use crate::data::low;
+use crate::ends::TrapKind;
+use crate::plain::{Tried, plain};
+use crate::thread::{Frame, Thread};
+use crate::values::ValueStack;
+use ante_stack::Stack;
+use ante_wmem::{Host, Memory};
+use ante_wtree::Instr;
+use std::alloc::Global;
+use std::mem;
+
+/// What became of the next instruction.
+#[derive(Clone, Copy)]
+pub(crate) enum Moved<'a> {
+    /// It is done, and this code comes next.
+    To(&'a [Instr]),
+    Trap(TrapKind),
+    /// Nothing is done: it is none for a stretch.
+    Stays,
+}
+
+/// The code that is left after so many steps, and whether the last of them trapped.
+#[derive(Clone, Copy)]
+pub(crate) struct Stretch<'a> {
+    pub(crate) code: &'a [Instr],
+    pub(crate) steps: u64,
+    pub(crate) trap: Option<TrapKind>,
+}
+
+/// Branches back to the innermost loop, or goes on where the condition is 0. None: nothing is done.
+#[inline(always)]
+fn loop_back<'a, H: Host>(
+    values: &mut ValueStack,
+    globals: &Vec<u64>,
+    memory: &Memory,
+    frames: &Stack<Frame<'a>>,
+    instr: &Instr,
+    rest: &'a [Instr],
+) -> Option<&'a [Instr]>
+    requires { (program : Program) × (w : H) × (free : ℕ) × (left : ℕ) × (outside : Outside) ×
+        NotStuck (under H.meaning program free values.old.below frames.now (acts program (call H.meaning program free) (put instr.now (expression_of rest.now)) (stepping values.old globals.now.items memory.now w left outside))) }
+    ensures leads { (program : Program) (w : H) (free left : ℕ) (outside : Outside) →
+        BranchLeads H.meaning program free frames.now
+        (under H.meaning program free values.old.below frames.now (acts program (call H.meaning program free) (put instr.now (expression_of rest.entry.now)) (stepping values.old globals.now.items memory.now w left outside)))
+        result values.new (stepping values.new globals.now.items memory.now w left outside) }
+    ensures undone { result ≡ None → values.new ≡ values.old }
+    ensures below { values.new.below ≡ values.old.below }
+{
+    let Instr::BrIf(0) = instr else {
+        return None;
+    };
+    let Some(Frame::Loop { height, body, .. }) = frames.top() else {
+        return None;
+    };
+    if low(values.pop()) == 0 {
+        return Some(rest);
+    }
+    values.keep(height);
+    Some(body)
+}
+
+/// Executes the next instruction, if it is one for a stretch.
+#[inline(always)]
+fn advance<'a, H: Host>(
+    values: &mut ValueStack,
+    globals: &mut Vec<u64>,
+    memory: &mut Memory,
+    frames: &Stack<Frame<'a>>,
+    code: &'a [Instr],
+) -> Moved<'a>
+    requires { (program : Program) × (w : H) × (free : ℕ) × (left : ℕ) × (0 < left % 1024) ×
+        Sound (λ outside. goes H.meaning program free frames.now code.now values.old (stepping values.old globals.old.items memory.old w left outside)) }
+    ensures leads { (program : Program) (w : H) (free left : ℕ) → 0 < left % 1024 → Quietly (λ events. (outside : Outside) → Begins outside events →
+        MoveLeads H.meaning program free frames.now
+        (goes H.meaning program free frames.now code.entry.now values.old (stepping values.old globals.old.items memory.old w left outside))
+        result values.new (stepping values.new globals.new.items memory.new w (left - 1) (past outside events))) }
+    ensures undone { result ≡ Moved.Stays → (values.new ≡ values.old) × (globals.new.items ≡ globals.old.items) × (memory.new ≡ memory.old) }
+    ensures below { values.new.below ≡ values.old.below }
+{
+    let Some((instr, rest)) = code.split_first() else {
+        return Moved::Stays;
+    };
+    match plain(values, globals, memory, instr) {
+        Tried::Done => Moved::To(rest),
+        Tried::Trap(kind) => Moved::Trap(kind),
+        Tried::Untouched => match loop_back::<H>(values, globals, memory, frames, instr, rest) {
+            Some(code) => Moved::To(code),
+            None => Moved::Stays,
+        },
+    }
+}
+
+/// Executes instructions, at most so many.
+#[inline(always)]
+fn run_stretch<'a, H: Host>(
+    values: &mut ValueStack,
+    globals: &mut Vec<u64>,
+    memory: &mut Memory,
+    frames: &Stack<Frame<'a>>,
+    code: &'a [Instr],
+    most: u64,
+) -> Stretch<'a>
+    requires { (program : Program) × (w : H) × (free : ℕ) × (left : ℕ) × (most ≤ left % 1024) ×
+        Sound (λ outside. goes H.meaning program free frames.now code.now values.old (stepping values.old globals.old.items memory.old w left outside)) }
+    ensures leads { (program : Program) (w : H) (free left : ℕ) → most ≤ left % 1024 → Quietly (λ events. (outside : Outside) → Begins outside events →
+        StretchLeads H.meaning program free frames.now
+        (goes H.meaning program free frames.now code.entry.now values.old (stepping values.old globals.old.items memory.old w left outside))
+        result.trap result.code.now values.new (stepping values.new globals.new.items memory.new w (left - result.steps) (past outside events))) }
+    ensures few { result.steps ≤ most }
+    ensures below { values.new.below ≡ values.old.below }
+{
+    let mut rest = code;
+    let mut steps = 0;
+    'instructions: while steps < most {
+        match advance::<H>(values, globals, memory, frames, rest) {
+            Moved::To(code) => {
+                rest = code;
+                steps += 1;
+            }
+            Moved::Trap(kind) => {
+                return Stretch {
+                    code: rest,
+                    steps: steps + 1,
+                    trap: Some(kind),
+                };
+            }
+            Moved::Stays => {
+                return Stretch {
+                    code: rest,
+                    steps,
+                    trap: None,
+                };
+            }
+        }
+    }
+    Stretch {
+        code: rest,
+        steps,
+        trap: None,
+    }
+}
+
+/// Executes the instructions that are next, up to the next look. The answer is the trap of the last one, if it has one.
+#[inline(never)]
+pub(crate) fn hurry<'a, H: Host>(
+    thread: &mut Thread<'a>,
+    alloc: Global,
+    left: &mut u64,
+    last: &mut u64,
+) -> Option<TrapKind>
+    requires { (program : Program) × (w : H) × Sound (λ outside. going H.meaning program thread.old (state_of thread.old.state w left.old last.old outside)) }
+    ensures leads { (program : Program) (w : H) → Quietly (λ events. (outside : Outside) → Begins outside events →
+        HurryLeads H.meaning program
+        (going H.meaning program thread.old (state_of thread.old.state w left.old last.old outside))
+        result thread.new w left.new last.new (past outside events)) }
+    ensures sinks { left.new ≤ left.old }
+    ensures frames { thread.new.frames ≡ thread.old.frames }
+    ensures below { thread.new.state.values.below ≡ thread.old.state.values.below }
+{
+    // Where the instruction executed last took more steps, a look may be due.
+    if *last <= *left || *last - *left > 1 {
+        return None;
+    }
+    let mut values = mem::replace(&mut thread.state.values, ValueStack::new(alloc));
+    let done = run_stretch::<H>(
+        &mut values,
+        &mut thread.state.globals,
+        &mut thread.state.memory,
+        &thread.frames,
+        thread.code,
+        *left % 1024,
+    );
+    thread.state.values = values;
+    thread.code = done.code;
+    *left -= done.steps;
+    *last -= done.steps;
+    done.trap
+}
