@@ -1,5 +1,5 @@
 -- What the machine's parts stand for.
-use Rattle.std.specs.Prelude.{◌≡◌, ℕ, zero, suc, ◌+◌, ◌≤◌, List, [], ◌∷◌, take, drop, reverse, Option, None, Some}
+use Rattle.std.specs.Prelude.{◌≡◌, ℕ, zero, suc, ◌+◌, ◌≤◌, List, [], ◌∷◌, length, take, drop, reverse, Option, None, Some}
 use denote.Bor.{Bor}
 use Rattle.ante_wmem.specs.HostCalls.{HostMeaning}
 use Rattle.ante_wtree.specs.declared.instructions.Instr.{Instr}
@@ -36,6 +36,16 @@ opens below (frame.Block kind height rest ∷ frames) = InBlock kind height (exp
 opens below (frame.Loop height body rest ∷ frames) = InLoop height (expression_of body.now) (expression_of rest.now) ∷ opens below frames
 opens below (frame.Call kind base locals free rest ∷ frames) =
     InCall kind (take locals (drop base below)) (reverse (drop locals (drop base below))) free (expression_of rest.now) ∷ opens (take base below) frames
+
+-- The locals of each open call's caller lie within the values that lie below the call's own.
+abbrev pub Nested : (below : ℕ) → List Frame → Type 0
+Nested below [] = Unit {0}
+Nested below (frame.Block kind height rest ∷ frames) = Nested below frames
+Nested below (frame.Loop height body rest ∷ frames) = Nested below frames
+Nested below (frame.Call kind base locals free rest ∷ frames) = (base + locals ≤ below) × Nested base frames
+
+abbrev pub IsNested : Thread → Type 0
+IsNested t = Nested (length t.state.values.below) t.frames
 
 -- ---- what a thread has, so that a rule applies
 
