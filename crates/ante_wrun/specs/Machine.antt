@@ -44,6 +44,7 @@ Nested below (frame.Block kind height rest ∷ frames) = Nested below frames
 Nested below (frame.Loop height body rest ∷ frames) = Nested below frames
 Nested below (frame.Call kind base locals free rest ∷ frames) = (base + locals ≤ below) × Nested base frames
 
+-- a thread's open calls, over the values below its own
 abbrev pub IsNested : Thread → Type 0
 IsNested t = Nested (length t.state.values.below) t.frames
 
