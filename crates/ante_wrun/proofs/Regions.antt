@@ -1,7 +1,7 @@
 -- A list in three parts, as the values of the frames lie in it, and what the operations on the last part make of it.
-use Rattle.std.proofs.Common.{◌≡◌, ℕ, suc, ◌+◌, ◌-◌, ◌<◌, ◌≤◌, List, [], ◌∷◌, ◌++◌, length, take, drop, reverse, replicate, set, min, Option, None, Some, refl, sym, ap, subst, ◌∙◌, arith, length-append, length-drop, append_assoc, take-take, true, false, ◌⊎◌, ⊎_elim}
+use Rattle.std.proofs.Common.{◌≡◌, ℕ, suc, ◌+◌, ◌-◌, ◌<◌, ◌≤◌, List, [], ◌∷◌, ◌++◌, length, take, drop, reverse, replicate, set, Option, None, Some, refl, sym, ap, subst, ◌∙◌, arith, length-append, length-drop, append_assoc, take-take, true}
 use Rattle.std.specs.Option.{is_some}
-use Rattle.std.proofs.lemmas.List.{take-append-drop, drop-take, reverse-reverse, reverse-append, length-reverse, drop-drop, length-take, length-take-le, set_split, length-set, append-nil, set-append_left, set-append_right, take_more_set}
+use Rattle.std.proofs.lemmas.List.{take-append-drop, drop-take, reverse-reverse, reverse-append, length-reverse, drop-drop, length-take-le, set_split, length-set, append-nil, set-append_left, set-append_right, take_more_set}
 use Rattle.std.proofs.Math.Seq.{take-append_seam, drop-append_seam, take-append-add, drop-append-add, drop-length}
 use Rattle.ante_wtree.specs.declared.instructions.ValueKind.{ValueKind}
 use Rattle.ante_wrun.specs.Effects.{top, popped}
@@ -186,23 +186,6 @@ module _ (xs : List ℕ) (base floor : ℕ) (b : base ≤ floor) (f : floor ≤ 
       ∙ sym (drop-take k count s) ∙ ap (λ j. drop k (take j s)) four
       ∙ sym (ap (arguments count) (popped_front (omega arith)) ∙ arguments_are count (take n s) le ∙ ap (λ j. drop j (take n s)) three)
 
--- the values below, with so many of them as locals and the others as operands, on top of which come others
-pub left_at : (a t : List ℕ) (base locals base' floor' : ℕ) → base' ≡ min base (length a) → floor' ≡ base' + min locals (length a - base') →
-    view (a ++ t) base' floor' ≡ record { below = take base a; locals = take locals (drop base a); stack = reverse t ++ reverse (drop locals (drop base a)) }
-left_at a t base locals base' floor' hb hf =
-    let l = take locals (drop base a) in
-    let s = drop locals (drop base a) in
-    let whole : a ++ t ≡ take base a ++ (l ++ (s ++ t)) =
-    ap (λ r. r ++ t) (sym (take-append-drop base a) ∙ ap (λ r. take base a ++ r) (sym (take-append-drop locals (drop base a))))
-    ∙ append_assoc (take base a) (l ++ s) t ∙ ap (λ r. take base a ++ r) (append_assoc l s t) in
-    let la : length (take base a) ≡ min base (length a) = length-take base a in
-    let ll : length l ≡ min locals (length (drop base a)) = length-take locals (drop base a) in
-    let ld : length (drop base a) ≡ length a - base = length-drop base a in
-    let start : base' ≡ length (take base a) = hb ∙ sym la in
-    let stop : floor' ≡ length (take base a) + length l = grind (arith, hb, hf, la, ll, ld) in
-    ap (λ z. view z base' floor') whole ∙ view_is (take base a) l (s ++ t) base' floor' start stop
-    ∙ ap (λ r. record { below = take base a; locals = l; stack = r }) (reverse-append s t)
-
 -- ---- the same, of the values that contracts see
 
 module _ (xs : List ℕ) (base floor : ℕ) (v : FrameValues) (e : view xs base floor ≡ v) (b : base ≤ floor) (f : floor ≤ length xs) where
@@ -242,24 +225,8 @@ module _ (xs : List ℕ) (base floor : ℕ) (v : FrameValues) (e : view xs base 
       take (length xs - 1 - (length xs - 1 - count)) (drop (length xs - 1 - count) xs) ≡ arguments count (popped v.stack)
   args_view count lt = args_at xs base floor b f count (omega (arith, lt, height_is)) ∙ ap (λ w. arguments count (popped w.stack)) e
 
-  pub left_view : (ys t : List ℕ) (kind : Option ValueKind) (start count base' floor' : ℕ) → ys ≡ take base xs ++ t → take (arity kind) v.stack ≡ reverse t →
-      base' ≡ min start base → floor' ≡ base' + min count (base - base') →
-      view ys base' floor' ≡ record { below = take start v.below; locals = take count (drop start v.below); stack = take (arity kind) v.stack ++ reverse (drop count (drop start v.below)) }
-  left_view ys t kind start count base' floor' y h hb hf =
-      let low : take base xs ≡ v.below = ap (λ w. w.below) e in
-      let len : base ≡ length (take base xs) = sym (length-take-le base xs (omega (arith, b, f))) in
-      ap (λ z. view z base' floor') y
-      ∙ left_at (take base xs) t start count base' floor' (hb ∙ ap (λ k. min start k) len) (hf ∙ ap (λ k. base' + min count (k - base')) len)
-      ∙ ap (λ a'. record { below = take start a'; locals = take count (drop start a'); stack = reverse t ++ reverse (drop count (drop start a')) }) low
-      ∙ ap (λ r. record { below = take start v.below; locals = take count (drop start v.below); stack = r ++ reverse (drop count (drop start v.below)) }) (sym h)
-
   pub raised : (x : ℕ) → 0 < length v.stack → take (base + 1) (set xs base x) ≡ take base xs ++ x ∷ []
   raised x lt = take_more_set xs base x (omega (arith, b, f, lt, height_is, length-drop floor xs))
-
-pub no_results : (kind : Option ValueKind) (stack : List ℕ) → (is_some kind ≡ false) ⊎ (length stack ≡ 0) → take (arity kind) stack ≡ []
-no_results None stack h = refl
-no_results (Some k) [] h = refl
-no_results (Some k) (x ∷ xs) h = ⊎_elim (λ e. cc) (λ e. absurd (omega (arith, e))) h
 
 pub one_result : (kind : Option ValueKind) (stack : List ℕ) → is_some kind ≡ true → 0 < length stack → take (arity kind) stack ≡ top stack ∷ []
 one_result None stack h lt = cc

@@ -73,6 +73,17 @@ opens below (frame.Loop height body rest ∷ frames) = InLoop height (expression
 opens below (frame.Call kind base locals free rest ∷ frames) =
     InCall kind (take locals (drop base below)) (reverse (drop locals (drop base below))) free (expression_of rest.now) ∷ opens (take base below) frames
 
+-- The locals of each open call's caller lie within the values that lie below the call's own.
+abbrev pub Nested : (below : ℕ) → List Frame → Type 0
+Nested below [] = Unit {0}
+Nested below (frame.Block kind height rest ∷ frames) = Nested below frames
+Nested below (frame.Loop height body rest ∷ frames) = Nested below frames
+Nested below (frame.Call kind base locals free rest ∷ frames) = (base + locals ≤ below) × Nested base frames
+
+-- a thread's open calls, over the values below its own
+abbrev pub IsNested : Thread → Type 0
+IsNested t = Nested (length t.state.values.below) t.frames
+
 -- ---- what a thread has, so that a rule applies
 
 -- A branch to this depth finds its label, and as many operands as this wants: those that were there, and the results.

@@ -3,7 +3,7 @@ ghost use Rattle.std.specs.Prelude.{◌≡◌, ℕ, ◌<◌, ◌≤◌, ◌&&◌
 ghost use Rattle.ante_wtree.specs.Expressions.{put, expression_of};
 ghost use Rattle.ante_wrun.specs.Effects.{low, top, popped};
 ghost use Rattle.ante_wrun.specs.Meaning.{Outside, Program, result_of, same_kind, same_kinds, is_of, element, on_stack, stack_of, grow, target, acts, call};
-ghost use Rattle.ante_wrun.specs.Machine.{state_of, whole, going, after};
+ghost use Rattle.ante_wrun.specs.Machine.{state_of, whole, going, after, IsNested};
 ghost use Rattle.ante_wrun.specs.Control.{instance_of, program_of, own_at, Leads, NotHostCall, GivenAt, Takes, Leaves};
 ghost use Rattle.ante_wrun.specs.Runs.{NotStuck};
 
@@ -127,8 +127,10 @@ fn enter<'a, H: Host>(
     locals: u32,
     body: &'a [Instr],
 ) -> Result<Next<'a>, AllocError>
-    requires { length kind.now.params ≤ length thread.old.state.values.stack }
+    requires operands { length kind.now.params ≤ length thread.old.state.values.stack }
+    requires nested { IsNested thread.old }
     ensures own { IfOk result NotHostCall }
+    ensures nested { IfOk result (λ next. IsNested thread.new) }
     ensures leads { IfOk result (λ next. (program : Program) (w : H) (left last : ℕ) (outside : Outside) →
         Leads H.meaning program
         (after H.meaning program thread.old (own_at H.meaning program thread.old.free kind.entry.now locals (expression_of body.entry.now) (state_of thread.old.state w left last outside)))
@@ -160,8 +162,10 @@ pub(crate) fn call_function<'a, H: Host>(
     alloc: Global,
     at: u32,
 ) -> Result<Next<'a>, AllocError>
-    requires { Takes (slice_get (program_of functions.now).functions at) (length thread.old.state.values.stack) }
+    requires takes { Takes (slice_get (program_of functions.now).functions at) (length thread.old.state.values.stack) }
+    requires nested { IsNested thread.old }
     ensures given { IfOk result (λ next. GivenAt (program_of functions.now) at next) }
+    ensures nested { IfOk result (λ next. IsNested thread.new) }
     ensures leads { IfOk result (λ next. (w : H) (left last : ℕ) (outside : Outside) →
         let program = program_of functions.now in
         Leads H.meaning program
@@ -189,7 +193,9 @@ fn call_indirect<'a, H: Host>(
     requires room { 0 < length thread.old.state.values.stack }
     requires leaves { let stack = thread.old.state.values.stack in
         Leaves (program_of functions.now) (element (program_of functions.now) wanted (low (top stack))) (length (popped stack)) }
-    ensures { IfOk result (λ next. (w : H) (left last : ℕ) (outside : Outside) →
+    requires nested { IsNested thread.old }
+    ensures nested { IfOk result (λ next. IsNested thread.new) }
+    ensures leads { IfOk result (λ next. (w : H) (left last : ℕ) (outside : Outside) →
         let program = program_of functions.now in
         let s = state_of thread.old.state w left last outside in
         Leads H.meaning program
@@ -210,8 +216,10 @@ fn grow<'a, H: Host>(
     alloc: Global,
     left: &mut u64,
 ) -> Result<Next<'a>, AllocError>
-    requires { 0 < length thread.old.state.values.stack }
+    requires room { 0 < length thread.old.state.values.stack }
+    requires nested { IsNested thread.old }
     ensures falls { left.new ≤ left.old }
+    ensures nested { IfOk result (λ next. IsNested thread.new) }
     ensures leads { IfOk result (λ next. (program : Program) (w : H) (last : ℕ) (outside : Outside) →
         let s = state_of thread.old.state w left.old last outside in
         Leads H.meaning program
@@ -254,9 +262,11 @@ pub(crate) fn act<'a, H: Host>(
     instr: &'a Instr,
     left: &mut u64,
 ) -> Result<Next<'a>, AllocError>
-    requires { (w : H) × (last : ℕ) × (outside : Outside) × (let program = program_of functions.now in
+    requires sound { (w : H) × (last : ℕ) × (outside : Outside) × (let program = program_of functions.now in
         NotStuck (whole H.meaning program thread.old (acts program (call H.meaning program thread.old.free) (put instr.now (expression_of thread.old.code.now)) (state_of thread.old.state w left.old last outside)))) }
+    requires nested { IsNested thread.old }
     ensures falls { left.new ≤ left.old }
+    ensures nested { IfOk result (λ next. IsNested thread.new) }
     ensures leads { IfOk result (λ next. (w : H) (last : ℕ) (outside : Outside) →
         let program = program_of functions.now in
         Leads H.meaning program

@@ -4,7 +4,7 @@ ghost use Rattle.ante_base.specs.Stops.{Looks};
 ghost use Rattle.ante_wmem.specs.HostCalls.{StaysAllowed};
 ghost use Rattle.ante_wrun.specs.Effects.{popped};
 ghost use Rattle.ante_wrun.specs.Meaning.{Outside, Program, invoked, round, due, arguments, masked, on_stack, call_host};
-ghost use Rattle.ante_wrun.specs.Machine.{state_of, going, after};
+ghost use Rattle.ante_wrun.specs.Machine.{state_of, going, after, IsNested};
 ghost use Rattle.ante_wrun.specs.Control.{program_of};
 ghost use Rattle.ante_wrun.specs.Runs.{Begins, past, ByEvents, Sound, MayCall, MayBelow, IsHosts};
 ghost use Rattle.ante_wrun.specs.Turns.{Replies, MayLook, look_of, Pays, HostLeads, TurnLeads, RunLeads};
@@ -98,12 +98,14 @@ fn host_call<'a, H: Host>(
     left: &mut u64,
 ) -> HostNext<H::Refusal>
     requires room { length kind.now.params < length thread.old.state.values.stack }
+    requires nested { IsNested thread.old }
     requires allowed { H.allowed host.old number (masked kind.now.params (arguments (length kind.now.params) (popped thread.old.state.values.stack))) left.old }
     requires replies { Replies kind.now.results (H.meaning host.old number (masked kind.now.params (arguments (length kind.now.params) (popped thread.old.state.values.stack))) thread.old.state.memory left.old).reply }
     ensures leads { (program : Program) (last : ℕ) (outside : Outside) →
         let s = on_stack (state_of thread.old.state host.old left.old last outside) (popped thread.old.state.values.stack) in
         HostLeads H.meaning H.stands program (after H.meaning program thread.old (call_host H.meaning kind.now number s)) result thread.new host.new left.new last outside }
     ensures after { StaysAllowed H.allowed host.old left.old host.new left.new }
+    ensures nested { IsNested thread.new }
     ensures falls { left.new ≤ left.old }
     ensures early { result ≡ HostNext.Ended RunEnd.Done → ⊥ }
     ensures uncut { (at : ℕ) → result ≡ HostNext.Ended (RunEnd.Cut at) → ⊥ }
@@ -143,6 +145,7 @@ fn turn<'a, H: Host, P: Stop>(
 ) -> Result<Progress<H::Refusal>, AllocError>
     requires below { MayBelow H.allowed (program_of functions.now) host.old left.old }
     requires sound { Sound (λ outside. going H.meaning (program_of functions.now) thread.old (state_of thread.old.state host.old left.old last.old outside)) }
+    requires nested { IsNested thread.old }
     ensures leads { let program = program_of functions.now in
         ByEvents P.may stop.old stop.new (λ events. (outside : Outside) → Begins outside events →
         TurnLeads H.meaning H.stands program (going H.meaning program thread.old (state_of thread.old.state host.old left.old last.old outside))
@@ -150,6 +153,7 @@ fn turn<'a, H: Host, P: Stop>(
     ensures falls { result ≡ Ok Progress.Go → left.new < left.old }
     ensures allowed { result ≡ Ok Progress.Go → MayBelow H.allowed (program_of functions.now) host.new left.new }
     ensures sound { result ≡ Ok Progress.Go → Sound (λ outside. going H.meaning (program_of functions.now) thread.new (state_of thread.new.state host.new left.new last.new outside)) }
+    ensures nested { result ≡ Ok Progress.Go → IsNested thread.new }
     ensures over { result ≡ Ok Progress.Over → MayBelow H.allowed (program_of functions.now) host.new left.new }
     ensures early { result ≡ Ok (Progress.Ended RunEnd.Done) → ⊥ }
     ensures cut { (at : ℕ) → result ≡ Ok (Progress.Ended (RunEnd.Cut at)) → AskedAt P.may at stop.new }
@@ -193,6 +197,7 @@ fn run_thread<'a, H: Host, P: Stop>(
 ) -> Result<Option<RunEnd<H::Refusal>>, AllocError>
     requires below { MayBelow H.allowed (program_of functions.now) host.old left.old }
     requires sound { Sound (λ outside. going H.meaning (program_of functions.now) thread.old (state_of thread.old.state host.old left.old last.old outside)) }
+    requires nested { IsNested thread.old }
     ensures leads { let program = program_of functions.now in
         ByEvents P.may stop.old stop.new (λ events. (outside : Outside) → Begins outside events →
         RunLeads H.stands (going H.meaning program thread.old (state_of thread.old.state host.old left.old last.old outside))

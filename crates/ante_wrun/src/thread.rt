@@ -2,7 +2,7 @@
 ghost use Rattle.std.specs.Prelude.{◌≡◌, ℕ, ◌∷◌, [], length, Option};
 ghost use Rattle.ante_wtree.specs.Expressions.{put, expression_of};
 ghost use Rattle.ante_wrun.specs.Meaning.{Outside, Program, Normal, Branch, Returned, does, call};
-ghost use Rattle.ante_wrun.specs.Machine.{state_of, under, whole, going, Finds, Reaches, Returns, Gives};
+ghost use Rattle.ante_wrun.specs.Machine.{state_of, under, whole, going, Nested, IsNested, Finds, Reaches, Returns, Gives};
 ghost use Rattle.ante_wrun.specs.Runs.{NotStuck};
 
 use crate::data::Data;
@@ -46,11 +46,13 @@ pub(crate) struct Thread<'a> {
 /// Goes on after a body that ended, whose frame was taken off.
 #[inline(never)]
 pub(crate) fn resume<'a, H: Host>(thread: &mut Thread<'a>, frame: Frame<'a>)
-    requires { Gives frame (length thread.old.state.values.stack) }
+    requires gives { Gives frame (length thread.old.state.values.stack) }
+    requires nested { Nested (length thread.old.state.values.below) (frame ∷ thread.old.frames) }
     ensures whole { (program : Program) (w : H) (left last : ℕ) (outside : Outside) →
         under H.meaning program thread.old.free thread.old.state.values.below (frame.entry ∷ thread.old.frames) (Normal (state_of thread.old.state w left last outside))
         ≡ going H.meaning program thread.new (state_of thread.new.state w left last outside) }
     ensures frames { thread.new.frames ≡ thread.old.frames }
+    ensures nested { IsNested thread.new }
 {
     match frame {
         Frame::Block { rest, .. } => thread.code = rest,
@@ -72,10 +74,12 @@ pub(crate) fn resume<'a, H: Host>(thread: &mut Thread<'a>, frame: Frame<'a>)
 /// The next instruction, or none where the last body has ended.
 #[inline(always)]
 pub(crate) fn next_instr<'a, H: Host>(thread: &mut Thread<'a>) -> Option<&'a Instr>
-    requires { (program : Program) × (w : H) × (left : ℕ) × (last : ℕ) × (outside : Outside) ×
+    requires sound { (program : Program) × (w : H) × (left : ℕ) × (last : ℕ) × (outside : Outside) ×
         NotStuck (going H.meaning program thread.old (state_of thread.old.state w left last outside)) }
-    ensures { (program : Program) (w : H) (left last : ℕ) (outside : Outside) →
+    requires nested { IsNested thread.old }
+    ensures finds { (program : Program) (w : H) (left last : ℕ) (outside : Outside) →
         Finds H.meaning program (going H.meaning program thread.old (state_of thread.old.state w left last outside)) result thread.new (state_of thread.new.state w left last outside) }
+    ensures nested { IsNested thread.new }
 {
     'bodies: loop {
         if let Some((first, rest)) = thread.code.split_first() {
@@ -92,10 +96,12 @@ pub(crate) fn next_instr<'a, H: Host>(thread: &mut Thread<'a>) -> Option<&'a Ins
 /// Branches to the label of a depth.
 #[inline(never)]
 pub(crate) fn branch<'a, H: Host>(thread: &mut Thread<'a>, depth: u32)
-    requires { Reaches thread.old.frames depth (length thread.old.state.values.stack) }
-    ensures { (program : Program) (w : H) (left last : ℕ) (outside : Outside) →
+    requires reaches { Reaches thread.old.frames depth (length thread.old.state.values.stack) }
+    requires nested { IsNested thread.old }
+    ensures whole { (program : Program) (w : H) (left last : ℕ) (outside : Outside) →
         whole H.meaning program thread.old (Branch depth (state_of thread.old.state w left last outside))
         ≡ going H.meaning program thread.new (state_of thread.new.state w left last outside) }
+    ensures nested { IsNested thread.new }
 {
     let mut out = depth;
     'frames: while let Some(frame) = thread.frames.top() {
@@ -138,10 +144,12 @@ pub(crate) fn branch<'a, H: Host>(thread: &mut Thread<'a>, depth: u32)
 /// Returns from the function.
 #[inline(never)]
 pub(crate) fn leave<'a, H: Host>(thread: &mut Thread<'a>)
-    requires { Returns thread.old.frames (length thread.old.state.values.stack) }
-    ensures { (program : Program) (w : H) (left last : ℕ) (outside : Outside) →
+    requires returns { Returns thread.old.frames (length thread.old.state.values.stack) }
+    requires nested { IsNested thread.old }
+    ensures whole { (program : Program) (w : H) (left last : ℕ) (outside : Outside) →
         whole H.meaning program thread.old (Returned (state_of thread.old.state w left last outside))
         ≡ going H.meaning program thread.new (state_of thread.new.state w left last outside) }
+    ensures nested { IsNested thread.new }
 {
     'frames: while let Some(frame) = thread.frames.pop() {
         match frame {

@@ -1,5 +1,5 @@
 //! The locals and operands of all frames in one growing list.
-ghost use Rattle.std.specs.Prelude.{◌≡◌, ◌+◌, ◌*◌, ◌-◌, ◌^◌, ◌<◌, ◌≤◌, List, [], ◌∷◌, ◌++◌, min, length, take, drop, reverse, replicate, slice_index, slice_set, Option, None, Some, OnOk, OnErr};
+ghost use Rattle.std.specs.Prelude.{◌≡◌, ◌+◌, ◌*◌, ◌-◌, ◌^◌, ◌<◌, ◌≤◌, List, [], ◌∷◌, ◌++◌, length, take, drop, reverse, replicate, slice_index, slice_set, Option, None, Some, OnOk, OnErr};
 ghost use Rattle.ante_wrun.specs.Effects.{top, popped};
 ghost use Rattle.ante_wrun.specs.Meaning.{keep, unwound, arity, arguments, mask, masked};
 
@@ -177,7 +177,8 @@ impl ValueStack {
     /// Ends a frame: the values below it are those of the frame whose locals begin there and are so many, and the results
     /// go on top of its operands.
     pub(crate) fn leave(&mut self, kind: Option<ValueKind>, base: usize, locals: usize)
-        requires { arity kind ≤ length self.old.stack }
+        requires results { arity kind ≤ length self.old.stack }
+        requires within { base + locals ≤ length self.old.below }
         ensures { self.new ≡ record {
           below = take base self.old.below;
           locals = take locals (drop base self.old.below);
@@ -189,13 +190,13 @@ impl ValueStack {
             let answer = self.top();
             self.items.set(end, answer);
             self.items.truncate(end + 1);
-            self.base = at_most(base, end);
-            self.floor = self.base + at_most(locals, end - self.base);
+            self.base = base;
+            self.floor = base + locals;
             return;
         }
         self.items.truncate(end);
-        self.base = at_most(base, end);
-        self.floor = self.base + at_most(locals, end - self.base);
+        self.base = base;
+        self.floor = base + locals;
     }
 
     /// Masks the arguments of a call, which lie below the topmost operand, to their kinds.
@@ -237,12 +238,6 @@ impl ValueStack {
         self.keep(height - count);
         self.put(value);
     }
-}
-
-fn at_most(value: usize, most: usize) -> usize
-    ensures { result ≡ min value most }
-{
-    if value > most { most } else { value }
 }
 
 fn mask(kind: ValueKind, value: u64) -> u64

@@ -18,7 +18,7 @@ pub returns-in-Some-clause-leads : goal.returns-in-Some-clause-leads
 returns-in-Some-clause-leads g c = λ w last outside.
     let P = program_of c.args.functions.now in
     let t = c.args.thread.now in
-    let q = c.requires in
+    let q = c.requires.sound in
     let s0 = state_of t.state q.0 c.args.left.now q.1 q.2 in
     let so = effect_is c.in-Plain.op (values_of t.state) s0 _ (alone g.H.Host.meaning P t _ (begins g.H.Host.meaning P t _ _ s0 (c.in-Plain.ensures (expression_of t.code.now)) q.3)) in
     let s = state_of t.state w c.args.left.now last outside in
@@ -57,7 +57,7 @@ pub returns-in_ok-push-in-If-clause-leads : goal.returns-in_ok-push-in-If-clause
 returns-in_ok-push-in-If-clause-leads g c = λ w last outside.
     let P = program_of c.args.functions.now in
     let t = c.args.thread.now in
-    let q = c.requires in
+    let q = c.requires.sound in
     let s0 = state_of t.state q.0 c.args.left.now q.1 q.2 in
     let lt = operand g.H.Host.meaning P t _ _ s0 _ (c.in-If.ensures (expression_of t.code.now)) refl q.3 in
     let s = state_of t.state w c.args.left.now last outside in
@@ -71,7 +71,7 @@ pub returns-else-low-eq0-clause-leads : goal.returns-else-low-eq0-clause-leads
 returns-else-low-eq0-clause-leads g c = λ w last outside.
     let P = program_of c.args.functions.now in
     let t = c.args.thread.now in
-    let q = c.requires in
+    let q = c.requires.sound in
     let s0 = state_of t.state q.0 c.args.left.now q.1 q.2 in
     let lt = operand g.H.Host.meaning P t _ _ s0 _ (c.in-BrIf.ensures (expression_of t.code.now)) refl q.3 in
     let s = state_of t.state w c.args.left.now last outside in
@@ -81,13 +81,13 @@ returns-else-low-eq0-clause-leads g c = λ w last outside.
     let taken : (low (top t.state.values.stack) == 0) ≡ false = ap (λ k. k == 0) n ∙ grind (arith, eqb-true, c.if-low-eq0.false) in
     e ∙ ap (whole g.H.Host.meaning P t) (BrIf_is P (call g.H.Host.meaning P t.free) s lt c.in-BrIf.depth (expression_of t.code.now)) ∙ ap (λ b. whole g.H.Host.meaning P t (and_then (jump_unless b c.in-BrIf.depth (on_stack s (popped t.state.values.stack))) (rest_of g.H.Host.meaning P t))) taken
     ∙ ap (λ v. under g.H.Host.meaning P t.free v.below t.frames (Branch c.in-BrIf.depth (state_of (record t.state { values = v }) w c.args.left.now last outside))) (sym c.pop-in-BrIf.ensures.rest)
-    ∙ c.branch-thread-in-BrIf.ensures P w c.args.left.now last outside
+    ∙ c.branch-thread-in-BrIf.ensures.whole P w c.args.left.now last outside
 
 pub returns-in-BrTable-clause-leads : goal.returns-in-BrTable-clause-leads
 returns-in-BrTable-clause-leads g c = λ w last outside.
     let P = program_of c.args.functions.now in
     let t = c.args.thread.now in
-    let q = c.requires in
+    let q = c.requires.sound in
     let s0 = state_of t.state q.0 c.args.left.now q.1 q.2 in
     let lt = operand g.H.Host.meaning P t _ _ s0 _ (c.in-BrTable.ensures (expression_of t.code.now)) refl q.3 in
     let s = state_of t.state w c.args.left.now last outside in
@@ -96,7 +96,7 @@ returns-in-BrTable-clause-leads g c = λ w last outside.
     let n : low (top t.state.values.stack) ≡ c.low-at.result = sym (c.low-at.ensures ∙ ap low c.pop-in-BrTable.ensures.value) in
     e ∙ ap (whole g.H.Host.meaning P t) (BrTable_is P (call g.H.Host.meaning P t.free) s lt c.in-BrTable.labels.now c.in-BrTable.last (expression_of t.code.now)) ∙ ap (λ k. m t.frames (Branch k (on_stack s (popped t.state.values.stack)))) (ap (λ at. slice_index_or c.in-BrTable.labels.now at c.in-BrTable.last) n ∙ sym c.label-depth.ensures)
     ∙ ap (λ v. under g.H.Host.meaning P t.free v.below t.frames (Branch c.label-depth.result (state_of (record t.state { values = v }) w c.args.left.now last outside))) (sym c.pop-in-BrTable.ensures.rest)
-    ∙ c.branch-thread-in-BrTable.ensures P w c.args.left.now last outside
+    ∙ c.branch-thread-in-BrTable.ensures.whole P w c.args.left.now last outside
 
 pub returns-in-Call-clause-leads : goal.returns-in-Call-clause-leads
 returns-in-Call-clause-leads g c =
@@ -113,7 +113,7 @@ pub returns-in-CallIndirect-clause-leads : goal.returns-in-CallIndirect-clause-l
 returns-in-CallIndirect-clause-leads g c =
     let P = program_of c.args.functions.now in
     let t = c.args.thread.now in
-    let q = c.requires in
+    let q = c.requires.sound in
     let s0 = state_of t.state q.0 c.args.left.now q.1 q.2 in
     let lt = operand g.H.Host.meaning P t _ _ s0 _ (c.in-CallIndirect.ensures (expression_of t.code.now)) refl q.3 in
     if_ok c.call_indirect.result _ _
@@ -121,13 +121,13 @@ returns-in-CallIndirect-clause-leads g c =
     subst (λ o. Leads g.H.Host.meaning P o next c.call_indirect.new.thread w c.args.left.now last outside)
     (sym (ap (λ x. whole g.H.Host.meaning P t (acts P (call g.H.Host.meaning P t.free) x (state_of t.state w c.args.left.now last outside))) (c.in-CallIndirect.ensures (expression_of t.code.now)) ∙ ap (whole g.H.Host.meaning P t) (CallIndirect_is P (call g.H.Host.meaning P t.free) (state_of t.state w c.args.left.now last outside) lt c.in-CallIndirect.kind (expression_of t.code.now))))
     (h w c.args.left.now last outside))
-    c.call_indirect.ensures
+    c.call_indirect.ensures.leads
 
 pub returns-in-MemoryGrow-clause-leads : goal.returns-in-MemoryGrow-clause-leads
 returns-in-MemoryGrow-clause-leads g c =
     let P = program_of c.args.functions.now in
     let t = c.args.thread.now in
-    let q = c.requires in
+    let q = c.requires.sound in
     let s0 = state_of t.state q.0 c.args.left.now q.1 q.2 in
     let lt = operand g.H.Host.meaning P t _ _ s0 _ (c.in-MemoryGrow.ensures (expression_of t.code.now)) refl q.3 in
     if_ok c.grow.result _ _
@@ -141,7 +141,7 @@ pub returns-in-None-clause-leads : goal.returns-in-None-clause-leads
 returns-in-None-clause-leads g c = λ w last outside.
     let P = program_of c.args.functions.now in
     let t = c.args.thread.now in
-    let q = c.requires in
+    let q = c.requires.sound in
     let s0 = state_of t.state q.0 c.args.left.now q.1 q.2 in
     let is = c.in-Plain.ensures (expression_of t.code.now) in
     let s = state_of t.state w c.args.left.now last outside in
@@ -155,7 +155,7 @@ pub returns-then-low-eq0-clause-leads : goal.returns-then-low-eq0-clause-leads
 returns-then-low-eq0-clause-leads g c = λ w last outside.
     let P = program_of c.args.functions.now in
     let t = c.args.thread.now in
-    let q = c.requires in
+    let q = c.requires.sound in
     let s0 = state_of t.state q.0 c.args.left.now q.1 q.2 in
     let is = c.in-BrIf.ensures (expression_of t.code.now) in
     let lt = operand g.H.Host.meaning P t _ _ s0 _ is refl q.3 in
@@ -170,7 +170,7 @@ pub plain-requires-clause-operands : goal.plain-requires-clause-operands
 plain-requires-clause-operands g c =
     let P = program_of c.args.functions.now in
     let t = c.args.thread.now in
-    let q = c.requires in
+    let q = c.requires.sound in
     let s0 = state_of t.state q.0 c.args.left.now q.1 q.2 in
     let is = c.in-Plain.ensures (expression_of t.code.now) in
     has_operands c.in-Plain.op (values_of t.state) s0 _ (alone g.H.Host.meaning P t _ (begins g.H.Host.meaning P t _ _ s0 is q.3))
@@ -179,7 +179,7 @@ pub plain-requires-clause-place : goal.plain-requires-clause-place
 plain-requires-clause-place g c =
     let P = program_of c.args.functions.now in
     let t = c.args.thread.now in
-    let q = c.requires in
+    let q = c.requires.sound in
     let s0 = state_of t.state q.0 c.args.left.now q.1 q.2 in
     let is = c.in-Plain.ensures (expression_of t.code.now) in
     has_place c.in-Plain.op (values_of t.state) s0 _ (alone g.H.Host.meaning P t _ (begins g.H.Host.meaning P t _ _ s0 is q.3))
@@ -188,7 +188,7 @@ pub pop-requires : goal.pop-requires
 pop-requires g c =
     let P = program_of c.args.functions.now in
     let t = c.args.thread.now in
-    let q = c.requires in
+    let q = c.requires.sound in
     let s0 = state_of t.state q.0 c.args.left.now q.1 q.2 in
     let is = c.in-If.ensures (expression_of t.code.now) in
     operand g.H.Host.meaning P t _ _ s0 _ is refl q.3
@@ -197,7 +197,7 @@ pub pop-requires-in-BrIf : goal.pop-requires-in-BrIf
 pop-requires-in-BrIf g c =
     let P = program_of c.args.functions.now in
     let t = c.args.thread.now in
-    let q = c.requires in
+    let q = c.requires.sound in
     let s0 = state_of t.state q.0 c.args.left.now q.1 q.2 in
     let is = c.in-BrIf.ensures (expression_of t.code.now) in
     operand g.H.Host.meaning P t _ _ s0 _ is refl q.3
@@ -206,16 +206,16 @@ pub pop-requires-in-BrTable : goal.pop-requires-in-BrTable
 pop-requires-in-BrTable g c =
     let P = program_of c.args.functions.now in
     let t = c.args.thread.now in
-    let q = c.requires in
+    let q = c.requires.sound in
     let s0 = state_of t.state q.0 c.args.left.now q.1 q.2 in
     let is = c.in-BrTable.ensures (expression_of t.code.now) in
     operand g.H.Host.meaning P t _ _ s0 _ is refl q.3
 
-pub grow-requires : goal.grow-requires
-grow-requires g c =
+pub grow-requires-clause-room : goal.grow-requires-clause-room
+grow-requires-clause-room g c =
     let P = program_of c.args.functions.now in
     let t = c.args.thread.now in
-    let q = c.requires in
+    let q = c.requires.sound in
     let s0 = state_of t.state q.0 c.args.left.now q.1 q.2 in
     let is = c.in-MemoryGrow.ensures (expression_of t.code.now) in
     operand g.H.Host.meaning P t _ _ s0 _ is refl q.3
@@ -224,34 +224,34 @@ pub call_indirect-requires-clause-room : goal.call_indirect-requires-clause-room
 call_indirect-requires-clause-room g c =
     let P = program_of c.args.functions.now in
     let t = c.args.thread.now in
-    let q = c.requires in
+    let q = c.requires.sound in
     let s0 = state_of t.state q.0 c.args.left.now q.1 q.2 in
     let is = c.in-CallIndirect.ensures (expression_of t.code.now) in
     operand g.H.Host.meaning P t _ _ s0 _ is refl q.3
 
-pub branch-thread-requires : goal.branch-thread-requires
-branch-thread-requires g c =
+pub branch-thread-requires-clause-reaches : goal.branch-thread-requires-clause-reaches
+branch-thread-requires-clause-reaches g c =
     let P = program_of c.args.functions.now in
     let t = c.args.thread.now in
-    let q = c.requires in
+    let q = c.requires.sound in
     let s0 = state_of t.state q.0 c.args.left.now q.1 q.2 in
     let is = c.in-Br.ensures (expression_of t.code.now) in
     reaches g.H.Host.meaning P t.free t.state.values.below t.frames c.in-Br.depth s0 (begins g.H.Host.meaning P t _ _ s0 is q.3)
 
-pub leave-requires : goal.leave-requires
-leave-requires g c =
+pub leave-requires-clause-returns : goal.leave-requires-clause-returns
+leave-requires-clause-returns g c =
     let P = program_of c.args.functions.now in
     let t = c.args.thread.now in
-    let q = c.requires in
+    let q = c.requires.sound in
     let s0 = state_of t.state q.0 c.args.left.now q.1 q.2 in
     let is = c.in-Return.ensures (expression_of t.code.now) in
     returns g.H.Host.meaning P t.free t.state.values.below t.frames s0 (begins g.H.Host.meaning P t _ _ s0 is q.3)
 
-pub call_function-requires : goal.call_function-requires
-call_function-requires g c =
+pub call_function-requires-clause-takes : goal.call_function-requires-clause-takes
+call_function-requires-clause-takes g c =
     let P = program_of c.args.functions.now in
     let t = c.args.thread.now in
-    let q = c.requires in
+    let q = c.requires.sound in
     let s0 = state_of t.state q.0 c.args.left.now q.1 q.2 in
     let is = c.in-Call.ensures (expression_of t.code.now) in
     callable g.H.Host.meaning P t.free c.in-Call.function s0 (first_runs _ (rest_of g.H.Host.meaning P t) (alone g.H.Host.meaning P t _ (begins g.H.Host.meaning P t _ _ s0 is q.3)))
@@ -260,7 +260,7 @@ pub call_indirect-requires-clause-leaves : goal.call_indirect-requires-clause-le
 call_indirect-requires-clause-leaves g c =
     let P = program_of c.args.functions.now in
     let t = c.args.thread.now in
-    let q = c.requires in
+    let q = c.requires.sound in
     let s0 = state_of t.state q.0 c.args.left.now q.1 q.2 in
     let is = c.in-CallIndirect.ensures (expression_of t.code.now) in
     let lt = operand g.H.Host.meaning P t _ _ s0 _ is refl q.3 in
@@ -268,11 +268,11 @@ call_indirect-requires-clause-leaves g c =
     (first_runs _ (rest_of g.H.Host.meaning P t) (alone g.H.Host.meaning P t _
     (subst (λ o. NotStuck (whole g.H.Host.meaning P t o)) (CallIndirect_is P (call g.H.Host.meaning P t.free) s0 lt c.in-CallIndirect.kind (expression_of t.code.now)) (begins g.H.Host.meaning P t _ _ s0 is q.3))))
 
-pub branch-thread-requires-in-BrIf : goal.branch-thread-requires-in-BrIf
-branch-thread-requires-in-BrIf g c =
+pub branch-thread-requires-in-BrIf-clause-reaches : goal.branch-thread-requires-in-BrIf-clause-reaches
+branch-thread-requires-in-BrIf-clause-reaches g c =
     let P = program_of c.args.functions.now in
     let t = c.args.thread.now in
-    let q = c.requires in
+    let q = c.requires.sound in
     let s0 = state_of t.state q.0 c.args.left.now q.1 q.2 in
     let is = c.in-BrIf.ensures (expression_of t.code.now) in
     let lt = operand g.H.Host.meaning P t _ _ s0 _ is refl q.3 in
@@ -283,11 +283,11 @@ branch-thread-requires-in-BrIf g c =
     (subst (λ b. NotStuck (whole g.H.Host.meaning P t (and_then (jump_unless b c.in-BrIf.depth (on_stack s0 (popped t.state.values.stack))) (rest_of g.H.Host.meaning P t)))) taken
     (subst (λ o. NotStuck (whole g.H.Host.meaning P t o)) (BrIf_is P (call g.H.Host.meaning P t.free) s0 lt c.in-BrIf.depth (expression_of t.code.now)) (begins g.H.Host.meaning P t _ _ s0 is q.3))))
 
-pub branch-thread-requires-in-BrTable : goal.branch-thread-requires-in-BrTable
-branch-thread-requires-in-BrTable g c =
+pub branch-thread-requires-in-BrTable-clause-reaches : goal.branch-thread-requires-in-BrTable-clause-reaches
+branch-thread-requires-in-BrTable-clause-reaches g c =
     let P = program_of c.args.functions.now in
     let t = c.args.thread.now in
-    let q = c.requires in
+    let q = c.requires.sound in
     let s0 = state_of t.state q.0 c.args.left.now q.1 q.2 in
     let is = c.in-BrTable.ensures (expression_of t.code.now) in
     let lt = operand g.H.Host.meaning P t _ _ s0 _ is refl q.3 in

@@ -14,9 +14,9 @@ returns-in-Own-clause-leads g c =
     let program = program_of c.args.functions.now in
     let t = c.args.thread.now in
     let all = c.args.functions.now.all.items in
-    let lt = within all c.args.at (length t.state.values.stack) c.requires in
+    let lt = within all c.args.at (length t.state.values.stack) c.requires.takes in
     let f = found all c.args.at (Some c.index.result.now) (sym (slice_get_read all (length all) c.args.at c.index.result.now refl lt c.index.ensures)) ∙ ap (λ f. Some (instance_of f)) c.in-Own.is in
-    let le : length c.in-Own.kind.now.params ≤ length t.state.values.stack = subst (λ o. Takes o (length t.state.values.stack)) f c.requires in
+    let le : length c.in-Own.kind.now.params ≤ length t.state.values.stack = subst (λ o. Takes o (length t.state.values.stack)) f c.requires.takes in
     if_ok c.enter.result _ _
     (λ next h w left last outside.
     let s = state_of t.state w left last outside in
@@ -34,9 +34,9 @@ returns-in_ok-push-in-Host-clause-leads g c = λ w left last outside.
     let s = state_of t.state w left last outside in
     let kind = c.in-Host.kind.now in
     let number = c.in-Host.number in
-    let lt = within all c.args.at (length t.state.values.stack) c.requires in
+    let lt = within all c.args.at (length t.state.values.stack) c.requires.takes in
     let f = found all c.args.at (Some c.index.result.now) (sym (slice_get_read all (length all) c.args.at c.index.result.now refl lt c.index.ensures)) ∙ ap (λ f. Some (instance_of f)) c.in-Host.is in
-    let le : length kind.params ≤ length t.state.values.stack = subst (λ o. Takes o (length t.state.values.stack)) f c.requires in (
+    let le : length kind.params ≤ length t.state.values.stack = subst (λ o. Takes o (length t.state.values.stack)) f c.requires.takes in (
       ap (after g.H.Host.meaning program t)
           (calls g.H.Host.meaning program t.free c.args.at s (Some (Given kind number)) f
           ∙ ap (λ b. only_if b (call_host g.H.Host.meaning kind number s)) (le-leb (length kind.params) (length t.state.values.stack) le))
@@ -50,5 +50,5 @@ returns-in_ok-push-in-Host-clause-leads g c = λ w left last outside.
 pub returns-in_ok-push-in-Host-clause-given : goal.returns-in_ok-push-in-Host-clause-given
 returns-in_ok-push-in-Host-clause-given g c =
     let all = c.args.functions.now.all.items in
-    let lt = within all c.args.at (length c.args.thread.now.state.values.stack) c.requires in
+    let lt = within all c.args.at (length c.args.thread.now.state.values.stack) c.requires.takes in
     found all c.args.at (Some c.index.result.now) (sym (slice_get_read all (length all) c.args.at c.index.result.now refl lt c.index.ensures)) ∙ ap (λ f. Some (instance_of f)) c.in-Host.is

@@ -7,8 +7,8 @@ use Rattle.ante_wrun.specs.Control.{program_of, Leads}
 use Rattle.ante_wrun.proofs.Calls.{if_ok, stops}
 use Rattle.ante_wrun.proofs.control.call_indirect.Goals as goal
 
-pub returns-in-Ok : goal.returns-in-Ok
-returns-in-Ok g c =
+pub returns-in-Ok-clause-leads : goal.returns-in-Ok-clause-leads
+returns-in-Ok-clause-leads g c =
     let P = program_of c.args.functions.now in
     let t = c.args.thread.now in
     let K = call g.H.Host.meaning P t.free in
@@ -24,8 +24,8 @@ returns-in-Ok g c =
     (h w left last outside))
     c.call_function.ensures.leads
 
-pub returns-in-Err : goal.returns-in-Err
-returns-in-Err g c = λ w left last outside.
+pub returns-in-Err-clause-leads : goal.returns-in-Err-clause-leads
+returns-in-Err-clause-leads g c = λ w left last outside.
     let P = program_of c.args.functions.now in
     let t = c.args.thread.now in
     let K = call g.H.Host.meaning P t.free in

@@ -79,8 +79,8 @@ host_call-requires-clause-allowed g c =
 pub run_thread-requires-in-Go-clause-below : goal.run_thread-requires-in-Go-clause-below
 run_thread-requires-in-Go-clause-below g c = λ less lt kind number args given fit. c.in-Go.ensures.after number args less lt (c.requires.here (c.in-Ok-HostCall.kind.now, c.in-Ok-HostCall.number, subst (GivenAt (program_of c.args.functions.now) c.args.function) c.in-Ok-HostCall.field-0-is c.in-Ok-HostCall.ensures.given) kind number args given fit)
 
-pub call_function-requires : goal.call_function-requires
-call_function-requires g c =
+pub call_function-requires-clause-takes : goal.call_function-requires-clause-takes
+call_function-requires-clause-takes g c =
     let P = program_of c.args.functions.now in
     let S = sound_call g.H.Host.meaning P g.P.Stop.may c.args.stop.now c.args.host.now c.args.thread.now c.requires.idle.0 c.requires.idle.1 c.args.function c.args.left.now c.args.last.now c.requires.sound in
     let t = c.args.thread.now in

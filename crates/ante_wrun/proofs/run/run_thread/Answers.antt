@@ -20,6 +20,7 @@ turns-preserved g c =
       c.in-Ok-Go.ensures.allowed (ap Ok c.in-Ok-Go.field-0-is),
       c.in-Ok-Go.ensures.sound (ap Ok c.in-Ok-Go.field-0-is),
       omega (arith, c.in-Ok-Go.ensures.sinks, c.turns.invariant.3),
+      c.in-Ok-Go.ensures.nested (ap Ok c.in-Ok-Go.field-0-is),
     )
 
 pub returns-in-Ok-Over-clause-leads : goal.returns-in-Ok-Over-clause-leads

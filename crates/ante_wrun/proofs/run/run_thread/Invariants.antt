@@ -1,6 +1,6 @@
 use Rattle.std.proofs.Common.{◌≡◌, ◌≤◌}
 use Rattle.ante_wrun.specs.Meaning.{Outside}
-use Rattle.ante_wrun.specs.Machine.{state_of, going}
+use Rattle.ante_wrun.specs.Machine.{state_of, going, IsNested}
 use Rattle.ante_wrun.specs.Control.{program_of}
 use Rattle.ante_wrun.specs.Runs.{Begins, past, ByEvents, Sound, MayBelow}
 use Rattle.ante_wrun.proofs.run.run_thread.Given as goal
@@ -13,6 +13,7 @@ invariant-turns g l =
     × MayBelow g.H.Host.allowed (program_of l.functions) l.host l.left
     × Sound (λ outside. going g.H.Host.meaning (program_of l.functions) l.thread (state_of l.thread.state l.host l.left l.last outside))
     × (l.left ≤ l.fn.left)
+    × IsNested l.thread
 
 abbrev pub decreases-turns : goal.decreases-turns
 decreases-turns g l = l.left

@@ -3,8 +3,8 @@ use Rattle.ante_wrun.specs.Meaning.{Normal, Returned}
 use Rattle.ante_wrun.specs.Machine.{state_of, under}
 use Rattle.ante_wrun.proofs.thread.leave.Goals as goal
 
-pub returns-in-Call : goal.returns-in-Call
-returns-in-Call g c = λ program w left last outside.
+pub returns-in-Call-clause-whole : goal.returns-in-Call-clause-whole
+returns-in-Call-clause-whole g c = λ program w left last outside.
     let s = state_of c.frames.thread.state w left last outside in
     let m = under g.H.Host.meaning program c.frames.thread.free c.frames.thread.state.values.below in
     c.frames.invariant.0 program w left last outside

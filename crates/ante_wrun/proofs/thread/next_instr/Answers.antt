@@ -7,36 +7,39 @@ use Rattle.ante_wrun.proofs.Bodies.{no_items}
 use Rattle.ante_wrun.proofs.Rules.{gives_back}
 use Rattle.ante_wrun.proofs.thread.next_instr.Goals as goal
 
-pub returns-in-Some : goal.returns-in-Some
-returns-in-Some g c = λ program w left last outside.
+pub returns-in-Some-clause-finds : goal.returns-in-Some-clause-finds
+returns-in-Some-clause-finds g c = λ program w left last outside.
     let t = c.bodies.thread in
-    c.bodies.invariant program w left last outside
+    c.bodies.invariant.0 program w left last outside
     ∙ ap (λ code. under g.H.Host.meaning program t.free t.state.values.below t.frames (does program (call g.H.Host.meaning program t.free) (expression_of code) (state_of t.state w left last outside))) c.in-Some.ensures.cases.0
 
-pub returns-in_default-pop : goal.returns-in_default-pop
-returns-in_default-pop g c = λ program w left last outside.
+pub returns-in_default-pop-clause-finds : goal.returns-in_default-pop-clause-finds
+returns-in_default-pop-clause-finds g c = λ program w left last outside.
     let t = c.bodies.thread in
     let s = state_of t.state w left last outside in
-    c.bodies.invariant program w left last outside
+    c.bodies.invariant.0 program w left last outside
     ∙ ap (λ code. under g.H.Host.meaning program t.free t.state.values.below t.frames (does program (call g.H.Host.meaning program t.free) (expression_of code) s)) (no_items t.code.now c.in_default.ensures.cases)
     ∙ ap (λ fs. under g.H.Host.meaning program t.free t.state.values.below fs (Normal s)) c.in_default-pop.ensures.0
 
 pub bodies-preserved : goal.bodies-preserved
-bodies-preserved g c = λ program w left last outside.
-    let t = c.bodies.thread in
-    let s = state_of t.state w left last outside in
-    c.bodies.invariant program w left last outside
-    ∙ ap (λ code. under g.H.Host.meaning program t.free t.state.values.below t.frames (does program (call g.H.Host.meaning program t.free) (expression_of code) s)) (no_items t.code.now c.in_default.ensures.cases)
-    ∙ ap (λ fs. under g.H.Host.meaning program t.free t.state.values.below fs (Normal s)) c.in-Some-pop.ensures
-    ∙ c.resume.ensures.whole program w left last outside
+bodies-preserved g c = (
+  λ program w left last outside.
+      let t = c.bodies.thread in
+      let s = state_of t.state w left last outside in
+      c.bodies.invariant.0 program w left last outside
+      ∙ ap (λ code. under g.H.Host.meaning program t.free t.state.values.below t.frames (does program (call g.H.Host.meaning program t.free) (expression_of code) s)) (no_items t.code.now c.in_default.ensures.cases)
+      ∙ ap (λ fs. under g.H.Host.meaning program t.free t.state.values.below fs (Normal s)) c.in-Some-pop.ensures
+      ∙ c.resume.ensures.whole program w left last outside,
+  c.resume.ensures.nested,
+)
 
-pub resume-requires : goal.resume-requires
-resume-requires g c =
-    let P = c.requires.0 in
+pub resume-requires-clause-gives : goal.resume-requires-clause-gives
+resume-requires-clause-gives g c =
+    let P = c.requires.sound.0 in
     let t = c.bodies.thread in
-    let s = state_of t.state c.requires.1 c.requires.2 c.requires.3 c.requires.4 in
+    let s = state_of t.state c.requires.sound.1 c.requires.sound.2 c.requires.sound.3 c.requires.sound.4 in
     gives_back g.H.Host.meaning P t.free t.state.values.below c.in-Some-pop.frame c.pop.new.self s (subst NotStuck
-    (c.bodies.invariant P c.requires.1 c.requires.2 c.requires.3 c.requires.4
+    (c.bodies.invariant.0 P c.requires.sound.1 c.requires.sound.2 c.requires.sound.3 c.requires.sound.4
     ∙ ap (λ code. under g.H.Host.meaning P t.free t.state.values.below t.frames (does P (call g.H.Host.meaning P t.free) (expression_of code) s)) (no_items t.code.now c.in_default.ensures.cases)
     ∙ ap (λ fs. under g.H.Host.meaning P t.free t.state.values.below fs (Normal s)) c.in-Some-pop.ensures)
-    c.requires.5)
+    c.requires.sound.5)
