@@ -15,3 +15,4 @@ pub mod Whole
 pub mod Programs
 pub mod Safe
 pub mod GivenTypes
+pub mod Stretching

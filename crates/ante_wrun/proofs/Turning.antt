@@ -117,7 +117,7 @@ starts_put instr.I64ExtendI32S rest first s = refl
 starts_put instr.I64ExtendI32U rest first s = refl
 
 module _ {W R : Type 0} where
-  pay_paid : (s : State W) (first : State W → Outcome W R) (n m : ℕ) → m ≡ suc n → s.outside.item_lacks s.outside.items ≡ false →
+  pub pay_paid : (s : State W) (first : State W → Outcome W R) (n m : ℕ) → m ≡ suc n → s.outside.item_lacks s.outside.items ≡ false →
       pay m s first ≡ first (record s { left = n; last = m; outside = after_item s.outside })
   pay_paid s first n m e h =
       ap (λ k. pay k s first) e ∙ ap (λ b. supplied b s (λ t. first (record t { left = n; last = suc n }))) h
@@ -290,15 +290,15 @@ some_outside = record { looks = 0; look_answer = λ n. None; items = 0; item_lac
 
 -- ---- one stretch after another
 
-begins-front : (xs ys : List Event) (v : Outside) → Begins v (xs ++ ys) → Begins v xs
+pub begins-front : (xs ys : List Event) (v : Outside) → Begins v (xs ++ ys) → Begins v xs
 begins-front [] ys v h = tt
 begins-front (x ∷ xs) ys v h = (h.0, begins-front xs ys (asked x v) h.1)
 
-begins-back : (xs ys : List Event) (v : Outside) → Begins v (xs ++ ys) → Begins (past v xs) ys
+pub begins-back : (xs ys : List Event) (v : Outside) → Begins v (xs ++ ys) → Begins (past v xs) ys
 begins-back [] ys v h = h
 begins-back (x ∷ xs) ys v h = begins-back xs ys (asked x v) h.1
 
-past-append : (xs ys : List Event) (v : Outside) → past v (xs ++ ys) ≡ past (past v xs) ys
+pub past-append : (xs ys : List Event) (v : Outside) → past v (xs ++ ys) ≡ past (past v xs) ys
 past-append [] ys v = refl
 past-append (x ∷ xs) ys v = past-append xs ys (asked x v)
 

@@ -5,6 +5,7 @@ pub mod Machine
 pub mod Control
 pub mod Runs
 pub mod Turns
+pub mod Stretches
 pub mod Soundness
 pub mod Instances
 pub mod Running

@@ -10,6 +10,7 @@ pub mod laws;
 mod machine;
 mod plain;
 mod run;
+mod stretch;
 mod thread;
 mod values;
 

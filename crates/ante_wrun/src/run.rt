@@ -12,6 +12,7 @@ ghost use Rattle.ante_wrun.specs.Running.{AskedAt};
 
 use crate::control::{Functions, Next, act, call_function};
 use crate::ends::RunEnd;
+use crate::stretch::hurry;
 use crate::thread::{Thread, next_instr};
 use ante_base::Stop;
 use ante_wmem::{Host, HostAnswer, HostFn};
@@ -208,6 +209,9 @@ fn run_thread<'a, H: Host, P: Stop>(
     ensures sinks { left.new ≤ left.old }
 {
     'turns: loop {
+        if let Some(kind) = hurry::<H>(thread, alloc, left, last) {
+            return Ok(Some(RunEnd::Trap(kind)));
+        }
         match turn(thread, functions, alloc, host, stop, left, last) {
             Ok(Progress::Go) => {}
             Ok(Progress::Over) => return Ok(None),

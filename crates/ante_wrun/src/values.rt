@@ -119,6 +119,7 @@ impl ValueStack {
         requires { at < length self.now.locals }
         ensures { result ≡ slice_index self.now.locals at }
     {
+        prove!(self.floor <= self.items.len());
         self.items.at(self.base + at as usize)
     }
 
@@ -127,6 +128,7 @@ impl ValueStack {
         requires { at < length self.old.locals }
         ensures { self.new ≡ record self.old { locals = slice_set self.old.locals at value } }
     {
+        prove!(self.floor <= self.items.len());
         self.items.set(self.base + at as usize, value);
     }
 
@@ -136,6 +138,7 @@ impl ValueStack {
         requires { height ≤ length self.old.stack }
         ensures { self.new ≡ record self.old { stack = keep height self.old.stack } }
     {
+        prove!(height <= self.items.len() - self.floor);
         self.items.truncate(self.floor + height);
     }
 
@@ -148,6 +151,7 @@ impl ValueStack {
             return self.keep(height);
         }
         let answer = self.top();
+        prove!(height < self.items.len() - self.floor);
         let at = self.floor + height;
         self.items.set(at, answer);
         self.items.truncate(at + 1);
@@ -189,6 +193,7 @@ impl ValueStack {
         if kind.is_some() {
             let answer = self.top();
             self.items.set(end, answer);
+            prove!(end < self.items.len());
             self.items.truncate(end + 1);
             self.base = base;
             self.floor = base + locals;
@@ -257,6 +262,7 @@ fn mask_from(values: &mut Slots, first: usize, kinds: &[ValueKind])
 {
     let (mut at, mut kind) = (first, kinds);
     'kinds: while let Some((next, rest)) = kind.split_first() {
+        prove!(at < values.len());
         values.set(at, mask(*next, values.at(at)));
         at += 1;
         kind = rest;
