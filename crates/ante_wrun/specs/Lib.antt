@@ -7,6 +7,7 @@ pub mod Runs
 pub mod Turns
 pub mod Soundness
 pub mod Instances
+pub mod Assured
 pub mod Running
 pub mod Given
 pub mod Parts
