@@ -13,6 +13,7 @@ pub mod Making
 pub mod Reached
 pub mod Whole
 pub mod Programs
+pub mod Assured
 pub mod Safe
 pub mod GivenTypes
 pub mod Stretching

@@ -28,7 +28,7 @@ use Rattle.ante_wrun.specs.Soundness.{IsOf, IsTyped}
 some_is : {A : Type 0} (x y : A) → Some x ≡ Some y → x ≡ y
 some_is x y h = cc
 
-any_at : {A : Type 0} (P : A → Type 0) (xs : List A) (n : ℕ) (x : A) → slice_get xs n ≡ Some x → P x → Any P xs
+pub any_at : {A : Type 0} (P : A → Type 0) (xs : List A) (n : ℕ) (x : A) → slice_get xs n ≡ Some x → P x → Any P xs
 any_at P xs n x e p = (n, x, slice_get_within xs n x e, get_or_from_slice_get xs n x x e, p)
 
 past : {A : Type 0} (xs : List A) (n : ℕ) → slice_get xs n ≡ None → length xs ≤ n
@@ -67,7 +67,7 @@ module _ (m : Tree) (valid : IsValid m) where
   abbrev Sure : Import → Type 0
   Sure i = (n : ℕ) → i.kind ≡ import.Function n → ((t : FuncType) × (slice_get m.types n ≡ Some t)) × ((number : ℕ) × (host_place i.name ≡ Some number))
 
-  sure : (k : ℕ) (i : Import) → slice_get m.imports k ≡ Some i → Sure i
+  pub sure : (k : ℕ) (i : Import) → slice_get m.imports k ≡ Some i → Sure i
   sure k i at n e = (by_type (slice_get m.types n) refl, by_name (host_place i.name) refl)
     where
       by_type : (o : Option FuncType) → slice_get m.types n ≡ o → (t : FuncType) × (slice_get m.types n ≡ Some t)

@@ -20,7 +20,7 @@ use Rattle.ante_wvalid.specs.Typing.{kinds_of, type_numbered}
 use Rattle.ante_wvalid.specs.Modules.{function_of, imported, function_types, HasType, HostType, HasHostType, IsApply, Twice, IsValid}
 use Rattle.ante_wrun.specs.Meaning.{Given, same_kinds}
 use Rattle.ante_wrun.specs.Runs.{IsHosts}
-use Rattle.ante_wrun.specs.Instances.{given_as, given_functions, own, own_functions, program_in, is_function, apply_in}
+use Rattle.ante_wrun.specs.Instances.{given_as, given_functions, own, own_functions, program_in, is_function, named_apply, apply_in}
 
 -- the parameters of `apply`
 abbrev pub three : List ValueKind
@@ -91,6 +91,9 @@ given_kind types (i ∷ is) kinds bodies (suc f) kind number h v go = v zero i r
 
 -- ---- the export
 
+abbrev named : Export → Bool
+named e = bytes_eq e.name (codes "apply")
+
 abbrev tests : Export → Bool
 tests e = bytes_eq e.name (codes "apply") && is_function e.kind
 
@@ -150,6 +153,33 @@ none_found (e ∷ es) k x lt at t h = head (tests e) refl k lt at (λ j l i g. n
     head true s k lt at rest = let never = none true s in cc
     head false s zero lt at rest = let passed : tests e ≡ true = subst (λ z. tests z ≡ true) (sym at) t in cc
     head false s (suc j) lt at rest = rest j (omega arith) at (none false s)
+
+-- what is among these exports, and isn't the first, is among the others
+later : (P : Export → Type 0) (e : Export) (es : List Export) → Any P (e ∷ es) → (P e → ⊥) → Any P es
+later P e es any other = at any.0 any.2 any.3
+  where
+    at : (k : ℕ) → k < length (e ∷ es) → slice_index_or (e ∷ es) k any.1 ≡ any.1 → Any P es
+    at zero lt is = absurd (other (subst P (sym is) any.4))
+    at (suc k) lt is = (k, any.1, omega (arith, lt), is, any.4)
+
+-- it can't be that none of these exports is `apply`
+abbrev HasOne : List FuncType → List ℕ → List Export → Type 0
+HasOne types functions es = (Any (IsApply types functions) es → ⊥) → ⊥
+
+first_named : (types : List FuncType) (functions : List ℕ) (es : List Export) → (Twice es → ⊥) → HasOne types functions es → find named es ≡ find tests es
+first_named types functions [] twice one = refl
+first_named types functions (e ∷ es) twice one = head (named e) (is_function e.kind) refl refl (λ h. first_named types functions es (λ t. twice (inr t)) h)
+  where
+    head : (b c : Bool) → named e ≡ b → is_function e.kind ≡ c → (HasOne types functions es → find named es ≡ find tests es) → cond b (Some e) (find named es) ≡ cond (b && c) (Some e) (find tests es)
+    head true true q r rest = refl
+    head true false q r rest = absurd (one (λ any.
+        let other = later (IsApply types functions) e es any (λ a. let f = is_function_kind e.kind a.1 in cc) in
+        twice (inl (other.0, other.1, other.2, other.3, other.4.0 ∙ sym ((bytes_eq-Decides e.name (codes "apply")).0 q)))))
+    head false c q r rest = rest (λ no. one (λ any. no (later (IsApply types functions) e es any (λ a. let n = (bytes_eq-Decides e.name (codes "apply")).1 a.0 in cc))))
+
+-- the first export with the name is the function
+pub apply_by_name : (m : Tree) → IsValid m → named_apply m.exports ≡ apply_in m
+apply_by_name m valid = ap (option_map (λ e. e.index)) (first_named m.types (function_types m) m.exports (λ t. valid (invalid.Rule rule.ExportTwice) t) (λ no. valid invalid.NoApply no))
 
 pub apply_there : (m : Tree) → IsValid m → apply_in m ≡ None → ⊥
 apply_there m valid e = valid invalid.NoApply (λ (any : Any (IsApply m.types (function_types m)) m.exports).

@@ -19,7 +19,6 @@ use Rattle.ante_wrun.specs.Machine.{state_of, going, after}
 abbrev pub instance_of : Function → FunctionInstance
 instance_of (function.Own kind locals body) = Own kind.now locals (expression_of body.now)
 instance_of (function.Host kind number) = Given kind.now number
-instance_of function.Missing = Missing
 
 abbrev pub program_of : Functions → Program
 program_of f = record { types = f.types.now; functions = map instance_of f.all.items; table = f.table.items }

@@ -14,6 +14,7 @@ use Rattle.ante_wtree.specs.declared.modules.Init.{Init}
 use Rattle.ante_wtree.specs.declared.modules.Init.TheVariants as init
 use Rattle.ante_wtree.specs.declared.modules.ExportKind.{ExportKind}
 use Rattle.ante_wtree.specs.declared.modules.ExportKind.TheVariants as export
+use Rattle.ante_wtree.specs.declared.modules.Export.{Export}
 use Rattle.ante_wtree.specs.declared.modules.Element.{Element}
 use Rattle.ante_wtree.specs.declared.modules.Segment.{Segment}
 use Rattle.ante_wtree.specs.Intrinsics.{names}
@@ -131,6 +132,10 @@ is_function export.Function = true
 is_function export.Table = false
 is_function export.Memory = false
 is_function export.Global = false
+
+-- the number of what is exported as `apply`, whatever it is; a valid module exports only one thing so
+abbrev pub named_apply : List Export → Option ℕ
+named_apply exports = option_map (λ e. e.index) (find (λ e. bytes_eq e.name (codes "apply")) exports)
 
 abbrev pub apply_in : Tree → Option ℕ
 apply_in m = option_map (λ e. e.index) (find (λ e. bytes_eq e.name (codes "apply") && is_function e.kind) m.exports)

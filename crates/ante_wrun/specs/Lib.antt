@@ -8,6 +8,7 @@ pub mod Turns
 pub mod Stretches
 pub mod Soundness
 pub mod Instances
+pub mod Assured
 pub mod Running
 pub mod Given
 pub mod Parts

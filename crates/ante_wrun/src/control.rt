@@ -27,8 +27,6 @@ pub(crate) enum Function<'a> {
         kind: &'a FuncType,
         number: u32,
     },
-    /// No valid module has one.
-    Missing,
 }
 
 /// The parts of a module that calls look at.
@@ -94,7 +92,6 @@ fn is_of(function: Function<'_>, wanted: &FuncType) -> bool
     match function {
         Function::Own { kind, .. } => same_type(kind, wanted),
         Function::Host { kind, .. } => same_type(kind, wanted),
-        Function::Missing => false,
     }
 }
 
@@ -179,7 +176,6 @@ pub(crate) fn call_function<'a, H: Host>(
             thread.state.values.push(0)?;
             Ok(Next::HostCall(kind, number))
         }
-        Function::Missing => unreachable!(),
     }
 }
 

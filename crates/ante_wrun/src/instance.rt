@@ -1,13 +1,14 @@
-//! Making an instance of a module (section 4.5.4).
-ghost use Rattle.std.specs.Prelude.{◌≡◌, ◌+◌, ◌≤◌, ◌&&◌, [], ◌++◌, length, map, min, nat_le, slice_get, fold, find, position, codes, IfOk, OnOk, IsTrue, true, Any};
-ghost use Rattle.std.specs.Option.{option_copied, option_map};
-ghost use Rattle.std.specs.List.{list_all};
+//! Making an instance of a valid module (section 4.5.4). Each type, name, body and number that it takes is there.
+ghost use Rattle.std.specs.Prelude.{◌≡◌, ◌+◌, ◌<◌, ◌≤◌, ◌&&◌, [], ◌∷◌, ◌++◌, length, map, min, nat_le, slice_get, fold, find, position, codes, IfOk, OnOk, IsTrue, true, Any};
+ghost use Rattle.std.specs.Option.{option_map};
+ghost use Rattle.std.specs.List.{list_all, AllByRecursion};
 ghost use Rattle.std.specs.Str.{bytes_eq};
 ghost use Rattle.ante_wtree.specs.Trees.{body_of, tree_of};
 ghost use Rattle.ante_wvalid.specs.Modules.{IsValid, OutOfBounds};
 ghost use Rattle.ante_wrun.specs.Machine.{values_of};
 ghost use Rattle.ante_wrun.specs.Control.{instance_of, program_of};
-ghost use Rattle.ante_wrun.specs.Instances.{host_place, given, given_functions, own, own_functions, constant, offset_of, first_globals, empty_table, most_pages, empty_memory, elements_fit, data_fits, segments_fit, with_element, with_segment, program_in, first_values, is_function, apply_in};
+ghost use Rattle.ante_wrun.specs.Instances.{host_place, given_as, given_functions, own, own_functions, constant, offset_of, first_globals, empty_table, most_pages, empty_memory, elements_fit, data_fits, segments_fit, with_element, with_segment, program_in, first_values, named_apply, apply_in};
+ghost use Rattle.ante_wrun.specs.Assured.{Links, IsLiteral};
 ghost use Rattle.ante_wrun.specs.Parts.{IsInstance};
 
 use crate::control::{Function, Functions};
@@ -15,8 +16,8 @@ use crate::data::{Data, low};
 use crate::values::ValueStack;
 use ante_wmem::Memory;
 use ante_wtree::{
-    Code, Element, Export, ExportKind, FuncType, Global, Import, ImportKind, Init, Limits, Module,
-    Segment, host_number,
+    Code, Element, Export, FuncType, Global, Import, ImportKind, Init, Limits, Module, Segment,
+    host_number,
 };
 use std::alloc::{AllocError, Global as Heap};
 
@@ -30,28 +31,25 @@ pub(crate) struct Instance<'a> {
 /// The most pages that a memory has.
 const PAGES: u32 = 528;
 
-fn type_at(types: &[FuncType], number: u32) -> Option<&FuncType>
-    ensures { option_copied result ≡ slice_get types.now number }
-{
-    types.get(number as usize)
-}
-
 fn host_place(name: &[u8]) -> Option<u32>
     ensures { result ≡ host_place name.now }
 {
     host_number(name)
 }
 
-fn given<'a>(types: &'a [FuncType], kind: u32, name: &[u8]) -> Function<'a>
-    ensures { instance_of result ≡ given (slice_get types.entry.now kind) (host_place name.now) }
+/// The host's function of an import.
+fn given<'a>(types: &'a [FuncType], import: &Import) -> Function<'a>
+    requires { Links types.now import.now }
+    ensures { given_as types.entry.now import.now.name import.now.kind ≡ instance_of result ∷ [] }
 {
-    let Some(kind) = type_at(types, kind) else {
-        return Function::Missing;
+    let ImportKind::Function(kind) = import.kind else {
+        unreachable!()
     };
-    match host_place(name) {
-        Some(number) => Function::Host { kind, number },
-        None => Function::Missing,
-    }
+    let Some(number) = host_place(import.name.as_slice()) else {
+        unreachable!()
+    };
+    let kind = &types[kind as usize];
+    Function::Host { kind, number }
 }
 
 fn given_functions<'a>(
@@ -59,14 +57,13 @@ fn given_functions<'a>(
     types: &'a [FuncType],
     imports: &[Import],
 ) -> Result<Vec<Function<'a>>, AllocError>
+    requires { AllByRecursion (Links types.now) imports.now }
     ensures { IfOk result (λ all. map instance_of all.items ≡ given_functions types.entry.now imports.now) }
 {
     let mut all = Vec::new(alloc);
     let mut rest = imports;
     'imports: while let Some((import, tail)) = rest.split_first() {
-        if let ImportKind::Function(kind) = import.kind {
-            all.push(given(types, kind, import.name.as_slice()))?;
-        }
+        all.push(given(types, import))?;
         rest = tail;
     }
     Ok(all)
@@ -89,14 +86,13 @@ fn own<'a>(
     kind: u32,
     code: &'a Code,
 ) -> Result<Function<'a>, AllocError>
+    requires { kind < length types.now }
     ensures { IfOk result (λ f. instance_of f ≡ own (slice_get types.entry.now kind) (body_of code.entry.now)) }
 {
+    let kind = &types[kind as usize];
     let locals = local_count(alloc, code)?;
     let body = code.body.as_slice();
-    match type_at(types, kind) {
-        Some(kind) => Ok(Function::Own { kind, locals, body }),
-        None => Ok(Function::Missing),
-    }
+    Ok(Function::Own { kind, locals, body })
 }
 
 /// Adds the module's own functions.
@@ -107,12 +103,14 @@ fn add_own<'a>(
     kinds: &[u32],
     codes: &'a [Code],
 ) -> Result<(), AllocError>
+    requires types { AllByRecursion (λ kind. kind < length types.now) kinds.now }
+    requires bodies { length kinds.now ≡ length codes.now }
     ensures { OnOk result (map instance_of all.new.items ≡ map instance_of all.old.items ++ own_functions types.entry.now kinds.now (map body_of codes.entry.now)) }
 {
     let (mut kind, mut code) = (kinds, codes);
     'functions: while let Some((number, kinds)) = kind.split_first() {
         let Some((first, codes)) = code.split_first() else {
-            return Ok(());
+            unreachable!()
         };
         all.push(own(alloc, types, *number, first)?)?;
         kind = kinds;
@@ -122,22 +120,25 @@ fn add_own<'a>(
 }
 
 fn constant(init: Init) -> u64
+    requires { IsLiteral init }
     ensures { result ≡ constant init }
 {
     match init {
         Init::Const32(bits) => u64::from(bits),
         Init::Const64(bits) => bits,
-        Init::GlobalGet(_) => 0,
+        Init::GlobalGet(_) => unreachable!(),
     }
 }
 
 fn offset_of(init: Init) -> u32
+    requires { IsLiteral init }
     ensures { result ≡ offset_of init }
 {
     low(constant(init))
 }
 
 fn first_globals(alloc: Heap, globals: &[Global]) -> Result<Vec<u64>, AllocError>
+    requires { AllByRecursion (λ g. IsLiteral g.init) globals.now }
     ensures { IfOk result (λ values. values.items ≡ map (λ g. constant g.init) globals.now) }
 {
     let mut values = Vec::new(alloc);
@@ -184,20 +185,37 @@ fn fits(at: u32, count: usize, bound: usize) -> bool
 }
 
 fn elements_fit(places: usize, elements: &[Element]) -> bool
+    requires { AllByRecursion (λ e. IsLiteral e.offset) elements.now }
     ensures { result ≡ elements_fit places elements.now }
 {
-    elements.iter().all(|element| fits(offset_of(element.offset), element.functions.len(), places))
+    let mut rest = elements;
+    'elements: while let Some((element, tail)) = rest.split_first() {
+        if !fits(offset_of(element.offset), element.functions.len(), places) {
+            return false;
+        }
+        rest = tail;
+    }
+    true
 }
 
 fn data_fits(count: usize, segments: &[Segment]) -> bool
+    requires { AllByRecursion (λ s. IsLiteral s.offset) segments.now }
     ensures { result ≡ data_fits count segments.now }
 {
-    segments.iter().all(|segment| fits(offset_of(segment.offset), segment.bytes.len(), count))
+    let mut rest = segments;
+    'segments: while let Some((segment, tail)) = rest.split_first() {
+        if !fits(offset_of(segment.offset), segment.bytes.len(), count) {
+            return false;
+        }
+        rest = tail;
+    }
+    true
 }
 
 /// Writes the numbers of a segment's functions.
 fn put_element(table: &mut [Option<u32>], element: &Element)
-    requires { offset_of element.now.offset + length element.now.functions ≤ length table.old }
+    requires literal { IsLiteral element.now.offset }
+    requires fits { offset_of element.now.offset + length element.now.functions ≤ length table.old }
     ensures { table.new ≡ with_element table.old element.now }
 {
     let mut at = offset_of(element.offset) as usize;
@@ -210,7 +228,8 @@ fn put_element(table: &mut [Option<u32>], element: &Element)
 }
 
 fn put_elements(table: &mut [Option<u32>], elements: &[Element])
-    requires { elements_fit (length table.old) elements.now ≡ true }
+    requires literal { AllByRecursion (λ e. IsLiteral e.offset) elements.now }
+    requires fit { elements_fit (length table.old) elements.now ≡ true }
     ensures { table.new ≡ fold with_element table.old elements.now }
 {
     let mut rest = elements;
@@ -222,7 +241,8 @@ fn put_elements(table: &mut [Option<u32>], elements: &[Element])
 
 /// Writes a segment's bytes.
 fn put_segment(memory: &mut Memory, segment: &Segment)
-    requires { offset_of segment.now.offset + length segment.now.bytes ≤ length memory.old.bytes }
+    requires literal { IsLiteral segment.now.offset }
+    requires fits { offset_of segment.now.offset + length segment.now.bytes ≤ length memory.old.bytes }
     ensures { memory.new ≡ with_segment memory.old segment.now }
 {
     if memory
@@ -234,7 +254,8 @@ fn put_segment(memory: &mut Memory, segment: &Segment)
 }
 
 fn put_segments(memory: &mut Memory, segments: &[Segment])
-    requires { data_fits (length memory.old.bytes) segments.now ≡ true }
+    requires literal { AllByRecursion (λ s. IsLiteral s.offset) segments.now }
+    requires fit { data_fits (length memory.old.bytes) segments.now ≡ true }
     ensures { memory.new ≡ fold with_segment memory.old segments.now }
 {
     let mut rest = segments;
@@ -245,6 +266,7 @@ fn put_segments(memory: &mut Memory, segments: &[Segment])
 }
 
 fn functions_of(alloc: Heap, module: &Module) -> Result<Functions<'_>, AllocError>
+    requires { IsValid (tree_of module.now) }
     ensures { IfOk result (λ f. program_of f ≡ record (program_in (tree_of module.now)) { table = empty_table module.now.table }) }
 {
     let types = module.types.as_slice();
@@ -273,6 +295,7 @@ fn data_of(alloc: Heap, module: &Module) -> Result<Data, AllocError>
 
 /// Whether all segments fit.
 fn segments_fit(module: &Module, places: usize, count: usize) -> bool
+    requires { IsValid (tree_of module.now) }
     ensures { result ≡ (elements_fit places module.now.elements && data_fits count module.now.segments) }
 {
     elements_fit(places, module.elements.as_slice()) && data_fits(count, module.segments.as_slice())
@@ -302,19 +325,22 @@ fn same_bytes(one: &[u8], two: &[u8]) -> bool
 }
 
 fn is_apply(export: &Export) -> bool
-    ensures { result ≡ (bytes_eq export.now.name (codes "apply") && is_function export.now.kind) }
+    ensures { result ≡ bytes_eq export.now.name (codes "apply") }
 {
-    same_bytes(export.name.as_slice(), b"apply") && matches!(export.kind, ExportKind::Function)
+    same_bytes(export.name.as_slice(), b"apply")
 }
 
-/// The number of the function that is exported as `apply`.
+fn named_apply(exports: &[Export]) -> Option<u32>
+    ensures { result ≡ named_apply exports.now }
+{
+    let found = exports.iter().find(|export| is_apply(export));
+    found.map(|export| export.index)
+}
+
+/// The number of the function that is exported as `apply`. Nothing else has this name, so its kind isn't asked.
 pub(crate) fn apply_index(module: &Module) -> Option<u32>
+    requires { IsValid (tree_of module.now) }
     ensures { result ≡ apply_in (tree_of module.now) }
 {
-    let found = module
-        .exports
-        .as_slice()
-        .iter()
-        .find(|export| is_apply(export));
-    found.map(|export| export.index)
+    named_apply(module.exports.as_slice())
 }
