@@ -97,11 +97,16 @@ impl Slots {
 
     /// Adds so many zeros at the end.
     pub fn add_zeros(&mut self, alloc: Global, zeros: usize) -> Result<(), AllocError>
-        ensures { OnOk result (self.new ≡ self.old ++ replicate zeros 0) }
+        ensures ok { OnOk result (self.new ≡ self.old ++ replicate zeros 0) }
+        ensures err { OnErr result (self.new ≡ self.old) }
     {
+        let count = self.count;
         self.make_room(alloc, zeros)?;
         for _ in 0..zeros {
-            self.push(0)?;
+            if let Err(error) = self.push(0) {
+                self.truncate(count);
+                return Err(error);
+            }
         }
         Ok(())
     }

@@ -20,11 +20,10 @@ use Rattle.ante_wrun.specs.declared.thread.Frame.TheVariants as frame
 use Rattle.ante_wrun.specs.declared.control.Function.{Function}
 use Rattle.ante_wrun.specs.declared.control.Next.{Next as After}
 use Rattle.ante_wrun.specs.declared.control.Next.TheVariants as next
-use Rattle.ante_wrun.specs.declared.ends.TrapKind.{TrapKind}
-use Rattle.ante_wrun.specs.Effects.{Effect, Next, Traps, NoRule, popped}
+use Rattle.ante_wrun.specs.Effects.{popped}
 use Rattle.ante_wrun.specs.Meaning.{Outside, Program, FunctionInstance, State, Outcome, Ended, and_then, of_function, chosen, of_block, on_stack, result_of, arguments, pay_pages, grow_if, grow, grown_by, does, call}
 use Rattle.ante_wrun.specs.Frames.{FrameValues, InCall, unwind}
-use Rattle.ante_wrun.specs.Machine.{opens, under, values_of, Does}
+use Rattle.ante_wrun.specs.Machine.{opens, under}
 use Rattle.ante_wrun.specs.Control.{instance_of, own_at, Takes, Stops, NotHostCall, GivenAt}
 use Rattle.ante_wrun.proofs.Bodies.{here, goes}
 
@@ -116,20 +115,7 @@ module _ {W : Type 0} (R : Type 0) where
       let more : nat_le pages s.left ≡ false = grind (arith, leb-true) in
       ap (λ b. grow_if b pages s) e ∙ ap (λ b. pay_pages b pages (grown_by pages s) s) more
 
--- ---- plain instructions and conditions
-
-pub goes_on : (e : Effect) (trap : Option TrapKind) (old new : Data) → Does e trap old new → trap ≡ None → e ≡ Next (values_of new)
-goes_on (Next v) trap old new d h = ap Next (sym d.1)
-goes_on (Traps k) trap old new d h = cc
-goes_on NoRule trap old new d h = absurd d
-
-pub traps : (e : Effect) (trap : Option TrapKind) (kind : TrapKind) (old new : Data) → Does e trap old new → trap ≡ Some kind → e ≡ Traps kind
-traps (Next v) trap kind old new d h = cc
-traps NoRule trap kind old new d h = absurd d
-traps (Traps k) trap kind old new d h = ap Traps (some_is k kind (sym d.0 ∙ h))
-  where
-    some_is : (x y : TrapKind) → Some x ≡ Some y → x ≡ y
-    some_is x y h = cc
+-- ---- conditions
 
 module _ {W R : Type 0} (host : HostMeaning W R) (program : Program) (w : W) (left last : ℕ) (outside : Outside) where
   chooses : (free : ℕ) (b : Bool) (one two : Bor (List Instr)) (s : State W) →

@@ -5,6 +5,7 @@ pub mod Bodies
 pub mod Calls
 pub mod Turning
 pub mod Rules
+pub mod Plains
 pub mod Masks
 pub mod Counts
 pub mod Soundness

@@ -8,96 +8,30 @@ use Rattle.ante_base.specs.Stops.{Looks}
 use Rattle.ante_wmem.specs.Linear.{LinearMemory}
 use Rattle.ante_wmem.specs.HostCalls.{HostMeaning}
 use Rattle.ante_wtree.specs.declared.instructions.Instr.{Instr}
-use Rattle.ante_wtree.specs.declared.instructions.Instr.TheVariants as instr
 use Rattle.ante_wtree.specs.declared.instructions.PlainInstr.{PlainInstr}
-use Rattle.ante_wtree.specs.Expressions.{Expression, Plain, expression_of, put}
+use Rattle.ante_wtree.specs.Expressions.{Expression, BrIf, expression_of, put}
+use Rattle.std.specs.declared.vec.Vec.{Vec}
+use Rattle.std.specs.declared.alloc.Global.{Global}
 use Rattle.ante_wrun.specs.declared.ends.TrapKind.{TrapKind}
 use Rattle.ante_wrun.specs.declared.ends.RunEnd.TheVariants as end
 use Rattle.ante_wrun.specs.declared.data.Data.{Data}
-use Rattle.ante_wrun.specs.declared.plain.Tried.{Tried}
 use Rattle.ante_wrun.specs.declared.plain.Tried.TheVariants as tried
 use Rattle.ante_wrun.specs.declared.thread.Frame.{Frame}
 use Rattle.ante_wrun.specs.declared.thread.Frame.TheVariants as frame
+use Rattle.ante_wrun.specs.declared.thread.Thread.{Thread}
 use Rattle.ante_wrun.specs.Effects.{Values, Effect, Next, Traps, NoRule, effect, operands, finds, done, low, top, popped}
 use Rattle.ante_wrun.specs.Meaning.{Outside, after_item, Program, State, Outcome, Branch, keep, only_if, and_then, of_effect, jump_unless, seen, due, round, on_stack, stack_of, acts, does, call}
 use Rattle.ante_wrun.specs.Frames.{FrameValues}
-use Rattle.ante_wrun.specs.Machine.{values_in, under, Tries, TriesPlain, Ready, plain_of, Reaches}
+use Rattle.ante_wrun.specs.Machine.{values_in, state_of, under, going, TriesPlain, Ready, plain_of}
 use Rattle.ante_wrun.specs.Control.{Stops}
 use Rattle.ante_wrun.specs.Runs.{Event, Supplied, Begins, past, looks_of, ByEvents, NotStuck, Calm, Sound}
-use Rattle.ante_wrun.specs.Stretches.{stepping, Quietly, goes}
+use Rattle.ante_wrun.specs.Stretches.{stepping, Quietly, goes, StretchLeads, HurryLeads}
 use Rattle.ante_wrun.proofs.Falls.{HostFalls}
 use Rattle.ante_wrun.proofs.Bodies.{land_Loop}
 use Rattle.ante_wrun.proofs.Calls.{ended}
+use Rattle.ante_wrun.proofs.Plains.{plain_put, was_done, was_trapped, effect_of, same_values}
 use Rattle.ante_wrun.proofs.Rules.{first_runs, has_one, has_operands, has_place, inner, reaches, at_Loop, BrIf_is}
-use Rattle.ante_wrun.proofs.Turning.{starts_put, pay_paid, begins-front, begins-back, past-append}
-
--- ---- plain instructions
-
-some_is : {A : Type 0} (x y : A) → Some x ≡ Some y → x ≡ y
-some_is x y h = cc
-
-pub plain_put : (i : Instr) (op : PlainInstr) (rest : Expression) → plain_of i ≡ Some op → put i rest ≡ Plain op rest
-plain_put instr.Unreachable op rest e = ap (λ o. Plain o rest) (some_is _ _ e)
-plain_put instr.Nop op rest e = ap (λ o. Plain o rest) (some_is _ _ e)
-plain_put (instr.Block' kind shape body) op rest e = cc
-plain_put (instr.Loop' kind shape body) op rest e = cc
-plain_put (instr.If' kind shape one shape-2 two) op rest e = cc
-plain_put (instr.Br label) op rest e = cc
-plain_put (instr.BrIf label) op rest e = cc
-plain_put (instr.BrTable labels label) op rest e = cc
-plain_put instr.Return op rest e = cc
-plain_put (instr.Call function) op rest e = cc
-plain_put (instr.CallIndirect kind) op rest e = cc
-plain_put instr.Drop op rest e = ap (λ o. Plain o rest) (some_is _ _ e)
-plain_put instr.Select op rest e = ap (λ o. Plain o rest) (some_is _ _ e)
-plain_put (instr.LocalGet n) op rest e = ap (λ o. Plain o rest) (some_is _ _ e)
-plain_put (instr.LocalSet n) op rest e = ap (λ o. Plain o rest) (some_is _ _ e)
-plain_put (instr.LocalTee n) op rest e = ap (λ o. Plain o rest) (some_is _ _ e)
-plain_put (instr.GlobalGet n) op rest e = ap (λ o. Plain o rest) (some_is _ _ e)
-plain_put (instr.GlobalSet n) op rest e = ap (λ o. Plain o rest) (some_is _ _ e)
-plain_put (instr.Load kind at) op rest e = ap (λ o. Plain o rest) (some_is _ _ e)
-plain_put (instr.Store kind at) op rest e = ap (λ o. Plain o rest) (some_is _ _ e)
-plain_put instr.MemorySize op rest e = ap (λ o. Plain o rest) (some_is _ _ e)
-plain_put instr.MemoryGrow op rest e = cc
-plain_put (instr.I32Const n) op rest e = ap (λ o. Plain o rest) (some_is _ _ e)
-plain_put (instr.I64Const n) op rest e = ap (λ o. Plain o rest) (some_is _ _ e)
-plain_put instr.I32Eqz op rest e = ap (λ o. Plain o rest) (some_is _ _ e)
-plain_put (instr.I32Compare o) op rest e = ap (λ o. Plain o rest) (some_is _ _ e)
-plain_put instr.I64Eqz op rest e = ap (λ o. Plain o rest) (some_is _ _ e)
-plain_put (instr.I64Compare o) op rest e = ap (λ o. Plain o rest) (some_is _ _ e)
-plain_put (instr.I32Unary o) op rest e = ap (λ o. Plain o rest) (some_is _ _ e)
-plain_put (instr.I32Binary o) op rest e = ap (λ o. Plain o rest) (some_is _ _ e)
-plain_put (instr.I64Unary o) op rest e = ap (λ o. Plain o rest) (some_is _ _ e)
-plain_put (instr.I64Binary o) op rest e = ap (λ o. Plain o rest) (some_is _ _ e)
-plain_put instr.I32WrapI64 op rest e = ap (λ o. Plain o rest) (some_is _ _ e)
-plain_put instr.I64ExtendI32S op rest e = ap (λ o. Plain o rest) (some_is _ _ e)
-plain_put instr.I64ExtendI32U op rest e = ap (λ o. Plain o rest) (some_is _ _ e)
-
--- what was done is plain, and gives this
-pub was_done : (o : Option PlainInstr) (old new : Values) → TriesPlain o tried.Done old new → (op : PlainInstr) × (o ≡ Some op) × (done op old ≡ Next new)
-was_done (Some op) old new h = (op, refl, h)
-was_done None old new h = let e = h.0 in cc
-
-pub was_trapped : (o : Option PlainInstr) (kind : TrapKind) (old new : Values) → TriesPlain o (tried.Trap kind) old new → (op : PlainInstr) × (o ≡ Some op) × (done op old ≡ Traps kind)
-was_trapped (Some op) kind old new h = (op, refl, h.0)
-was_trapped None kind old new h = let e = h.0 in cc
-
-pub untouched : (o : Option PlainInstr) (old new : Values) → TriesPlain o tried.Untouched old new → new ≡ old
-untouched (Some op) old new h = h
-untouched None old new h = h.1
-
-both_true : (a b : Bool) → a ≡ true → b ≡ true → (a && b) ≡ true
-both_true true true h k = refl
-both_true true false h k = cc
-both_true false b h k = cc
-
-pub effect_of : (op : PlainInstr) (v : Values) → Ready (Some op) v → effect op v ≡ done op v
-effect_of op v r = ap (λ b. if b then done op v else NoRule) (both_true _ _ (le-leb (operands op) (length v.stack) r.0) r.1)
-
-pub same_values : (v v' : FrameValues) (g g' : List ℕ) (m m' : LinearMemory) → values_in v' g' m' ≡ values_in v g m → v'.below ≡ v.below → v' ≡ v
-same_values v v' g g' m m' e b =
-    ap (λ x. record { below = x; locals = v'.locals; stack = v'.stack }) b
-    ∙ ap (λ (x : Values). record { below = v.below; locals = x.locals; stack = x.stack }) e
+use Rattle.ante_wrun.proofs.Turning.{starts_put, pay_paid, begins-front, begins-back, past-append, more_events}
 
 -- ---- steps
 
@@ -129,7 +63,7 @@ module _ {W R : Type 0} (host : HostMeaning W R) (program : Program) (free : ℕ
     as_plain : (op : PlainInstr) → plain_of i ≡ Some op → acting i rest v here ≡ under host program free v.below frames (of_effect (effect op (values_in v g m)) here (does program (call host program free) (expression_of rest)))
     as_plain op e = ap (λ x. under host program free v.below frames (acts program (call host program free) x here)) (plain_put i op (expression_of rest) e)
 
-    pub ready : NotStuck (acting i rest v here) → Ready (plain_of i) (values_in v g m)
+    ready : NotStuck (acting i rest v here) → Ready (plain_of i) (values_in v g m)
     ready h = by_kind (plain_of i) refl
       where
         by_kind : (q : Option PlainInstr) → plain_of i ≡ q → Ready q (values_in v g m)
@@ -155,14 +89,97 @@ module _ {W R : Type 0} (host : HostMeaning W R) (program : Program) (free : ℕ
         let so = effect_of d.0 (values_in v g m) (subst (λ q. Ready q (values_in v g m)) d.1 r) ∙ d.2 in (
           here,
           as_plain d.0 d.1
-          ∙ ap (λ x. under host program free v.below frames (of_effect x here (does program (call host program free) (expression_of rest)))) so
-          ∙ ended host program free v.below frames (end.Trap kind) here,
+              ∙ ap (λ x. under host program free v.below frames (of_effect x here (does program (call host program free) (expression_of rest)))) so
+              ∙ ended host program free v.below frames (end.Trap kind) here,
           refl,
           refl,
           refl,
         )
 
+    -- a branch to the loop on top, where the condition isn't 0
+    pub branch_operand : (n : ℕ) → put i (expression_of rest) ≡ BrIf n (expression_of rest) → NotStuck (acting i rest v here) → 0 < length v.stack
+    branch_operand n e h =
+        has_one v.stack here _ (inner host program free v.below frames _ (subst (λ x. NotStuck (under host program free v.below frames (acts program (call host program free) x here))) e h))
+
+    as_branch : (n : ℕ) → put i (expression_of rest) ≡ BrIf n (expression_of rest) → 0 < length v.stack →
+        acting i rest v here ≡ under host program free v.below frames (and_then (jump_unless (low (top v.stack) == 0) n (on_stack here (popped v.stack))) (does program (call host program free) (expression_of rest)))
+    as_branch n e lt =
+        ap (λ x. under host program free v.below frames (acts program (call host program free) x here)) e
+        ∙ ap (under host program free v.below frames) (BrIf_is program (call host program free) here lt n (expression_of rest))
+
+    pub not_branched : (n : ℕ) (v' : FrameValues) → put i (expression_of rest) ≡ BrIf n (expression_of rest) → 0 < length v.stack → (low (top v.stack) == 0) ≡ true →
+        v' ≡ record { below = v.below; locals = v.locals; stack = popped v.stack } → acting i rest v here ≡ goes host program free frames rest v' (stepping v' g m w left o)
+    not_branched n v' e lt z k =
+        as_branch n e lt
+        ∙ ap (λ b. under host program free v.below frames (and_then (jump_unless b n (on_stack here (popped v.stack))) (does program (call host program free) (expression_of rest)))) z
+        ∙ ap (λ x. goes host program free frames rest x (stepping x g m w left o)) (sym k)
+
+    taken : (n : ℕ) → put i (expression_of rest) ≡ BrIf n (expression_of rest) → 0 < length v.stack → (low (top v.stack) == 0) ≡ false →
+        acting i rest v here ≡ under host program free v.below frames (Branch n (on_stack here (popped v.stack)))
+    taken n e lt z =
+        as_branch n e lt
+        ∙ ap (λ b. under host program free v.below frames (and_then (jump_unless b n (on_stack here (popped v.stack))) (does program (call host program free) (expression_of rest)))) z
+
+    pub branch_height : (height : ℕ) (body after : Bor (List Instr)) (others : List Frame) → put i (expression_of rest) ≡ BrIf 0 (expression_of rest) → frames ≡ frame.Loop height body after ∷ others →
+        (low (top v.stack) == 0) ≡ false → NotStuck (acting i rest v here) → height ≤ length (popped v.stack)
+    branch_height height body after others e f z h =
+        at_Loop frames others height body after 0 (length (popped v.stack)) f refl
+        (reaches host program free v.below frames 0 (on_stack here (popped v.stack)) (subst NotStuck (taken 0 e (branch_operand 0 e h) z) h))
+
+    pub branched : HostFalls host → (globals : Vec ℕ Global) → globals.items ≡ g → (height : ℕ) (body after : Bor (List Instr)) (others : List Frame) (v1 v2 : FrameValues) →
+        put i (expression_of rest) ≡ BrIf 0 (expression_of rest) → frames ≡ frame.Loop height body after ∷ others → 0 < length v.stack → (low (top v.stack) == 0) ≡ false →
+        v1 ≡ record { below = v.below; locals = v.locals; stack = popped v.stack } → height ≤ length v1.stack → v2 ≡ record { below = v1.below; locals = v1.locals; stack = keep height v1.stack } →
+        acting i rest v here ≡ goes host program free frames body.now v2 (stepping v2 g m w left o)
+    branched falls globals ge height body after others v1 v2 e f lt z k le l =
+        taken 0 e lt z
+        ∙ ap (λ x. under host program free x.below frames (Branch 0 (stepping x g m w left o))) (sym k)
+        ∙ ap (λ x. under host program free v1.below frames (Branch 0 (stepping v1 x m w left o))) (sym ge)
+        ∙ land_Loop host program w left (suc left) o falls free 0 frames others (record { values = v1; globals = globals; memory = m }) height body after v2 f refl le l
+        ∙ ap (λ x. goes host program free frames body.now v2 (stepping v2 x m w left o)) ge
+
+  -- ---- the next instruction
+
+  module _ (code : List Instr) (i : Instr) (rest : List Instr) (v : FrameValues) (g : List ℕ) (m : LinearMemory) (left : ℕ) (is : code ≡ i ∷ rest) (r : 0 < left % 1024) where
+    paid : (o : Outside) → o.item_lacks o.items ≡ false → goes host program free frames code v (stepping v g m w left o) ≡ acting i rest v (stepping v g m w (left - 1) (after_item o))
+    paid o h = ap (λ c. goes host program free frames c v (stepping v g m w left o)) is ∙ paid_step i rest v g m left o r h
+
+    pub next_sound : Sound (λ o. goes host program free frames code v (stepping v g m w left o)) → (o : Outside) × NotStuck (acting i rest v (stepping v g m w (left - 1) o))
+    next_sound s = (after_item s.0, subst NotStuck (paid s.0 (s.1.1 s.0.items)) s.2)
+
+    pub ready_next : Sound (λ o. goes host program free frames code v (stepping v g m w left o)) → Ready (plain_of i) (values_in v g m)
+    ready_next s = let n = next_sound s in ready i rest v g m (left - 1) n.0 n.1
+
+    pub one_quiet : (Q : Outcome W R → Outside → Type 0) → ((o : Outside) → Q (acting i rest v (stepping v g m w (left - 1) o)) o) →
+        Quietly (λ events. (o : Outside) → Begins o events → Q (goes host program free frames code v (stepping v g m w left o)) (past o events))
+    one_quiet Q h = (1, λ o b. subst (λ x. Q x (after_item o)) (sym (paid o b.0)) (h (after_item o)))
+
+-- what holds of values holds where nothing was done to them
+pub still : (v v' : FrameValues) (g g' : List ℕ) (m m' : LinearMemory) → values_in v' g' m' ≡ values_in v g m → v'.below ≡ v.below →
+    (F : FrameValues → List ℕ → LinearMemory → Type 0) → F v g m → F v' g' m'
+still v v' g g' m m' e b F h =
+    let same : v ≡ v' = sym (same_values v v' g g' m m' e b) in
+    let globals : g ≡ g' = sym (ap (λ (x : Values). x.globals) e) in
+    let memory : m ≡ m' = sym (ap (λ (x : Values). x.memory) e) in
+    subst (λ x. F x g' m') same (subst (λ x. F v x m') globals (subst (λ x. F v g x) memory h))
+
+pub stayed : (v v' : FrameValues) (g g' : List ℕ) (m m' : LinearMemory) → (v' ≡ v) × (g' ≡ g) × (m' ≡ m) → (F : FrameValues → List ℕ → LinearMemory → Type 0) → F v g m → F v' g' m'
+stayed v v' g g' m m' e F h = subst (λ x. F x g' m') (sym e.0) (subst (λ x. F v x m') (sym e.1) (subst (λ x. F v g x) (sym e.2) h))
+
 -- ---- one stretch after another
+
+-- steps are left in the round
+pub in_round : (left most steps : ℕ) → most ≤ left % 1024 → steps < most → 0 < (left - steps) % 1024
+in_round left most steps le lt = omega (arith, le, lt)
+
+pub one_more : (left most steps : ℕ) → most ≤ left % 1024 → steps < most → left - steps - 1 ≡ left - (steps + 1)
+one_more left most steps le lt = omega arith
+
+module _ {W R : Type 0} (host : HostMeaning W R) (program : Program) where
+  -- a stretch, as the thread has it
+  pub hurried : (t : Thread) (trap : Option TrapKind) (w : W) (n last : ℕ) (u : Outside) (x y : Outcome W R) → x ≡ y → last ≡ suc n →
+      StretchLeads host program t.free t.frames y trap t.code.now t.state.values (stepping t.state.values t.state.globals.items t.state.memory w n u) → HurryLeads host program x trap t w n last u
+  hurried t None w n last u x y e l h = e ∙ h ∙ ap (λ k. going host program t (state_of t.state w n k u)) (sym l)
+  hurried t (Some kind) w n last u x y e l h = subst (Stops (end.Trap kind) w n u) (sym e) h
 
 module _ {W R : Type 0} where
   pub more_quiet : (F A : Outside → Outcome W R) (Q : Outcome W R → Outside → Type 0) →
@@ -175,7 +192,7 @@ module _ {W R : Type 0} where
       let both : xs ++ ys ≡ replicate (h.0 + k.0) Supplied = replicate-append-replicate h.0 k.0 Supplied in (
         h.0 + k.0,
         subst (λ events. (v : Outside) → Begins v events → Q (F v) (past v events)) both
-        (λ v b.
+            (λ v b.
             let e = h.1 v (begins-front xs ys v b) in
             let q = k.1 (past v xs) (begins-back xs ys v b) in
             subst (λ x. Q (F v) x) (sym (past-append xs ys v)) (subst (λ o. Q o (past (past v xs) ys)) (sym e) q)),
@@ -196,5 +213,12 @@ no_looks : (n : ℕ) → looks_of (replicate n Supplied) ≡ []
 no_looks zero = refl
 no_looks (suc n) = no_looks n
 
-pub by_events : {S : Type 0} (may : S → Option ℕ → S → Type 0) (stop : S) (holds : List Event → Type 0) → Quietly holds → ByEvents may stop stop holds
+by_events : {S : Type 0} (may : S → Option ℕ → S → Type 0) (stop : S) (holds : List Event → Type 0) → Quietly holds → ByEvents may stop stop holds
 by_events may stop holds h = (replicate h.0 Supplied, subst (λ ls. Looks may stop ls stop) (sym (no_looks h.0)) refl, h.1)
+
+-- a stretch after what the run did before
+pub then_quiet : {S W R : Type 0} (may : S → Option ℕ → S → Type 0) (old mid : S) (F A : Outside → Outcome W R) (Q : Outcome W R → Outside → Type 0) →
+    ByEvents may old mid (λ events. (v : Outside) → Begins v events → F v ≡ A (past v events)) →
+    Quietly (λ events. (u : Outside) → Begins u events → Q (A u) (past u events)) →
+    ByEvents may old mid (λ events. (v : Outside) → Begins v events → Q (F v) (past v events))
+then_quiet may old mid F A Q h k = more_events may old mid mid F A Q h (by_events may mid _ k)

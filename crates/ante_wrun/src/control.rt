@@ -172,8 +172,7 @@ pub(crate) fn call_function<'a, H: Host>(
     match functions.all[at as usize] {
         Function::Own { kind, locals, body } => { enter::<H>(thread, alloc, kind, locals, body) }
         Function::Host { kind, number } => {
-            thread.state.values.make_room(alloc)?;
-            thread.state.values.push(0)?;
+            thread.state.values.push_with_room(alloc, 0)?;
             Ok(Next::HostCall(kind, number))
         }
     }
@@ -229,7 +228,10 @@ fn grow<'a, H: Host>(
         return Ok(Next::StepLimit);
     }
     let answer = thread.state.memory.grow(alloc, pages)?;
-    thread.state.values.push(u64::from(answer))?;
+    thread
+        .state
+        .values
+        .push_with_room(alloc, u64::from(answer))?;
     if grows {
         *left -= u64::from(pages);
     }

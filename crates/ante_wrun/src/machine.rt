@@ -46,8 +46,7 @@ fn operands(alloc: Global, args: &[u64]) -> Result<ValueStack, AllocError>
     let mut values = ValueStack::new(alloc);
     let mut rest = args;
     'each: while let Some((value, tail)) = rest.split_first() {
-        values.make_room(alloc)?;
-        values.push(*value)?;
+        values.push_with_room(alloc, *value)?;
         rest = tail;
     }
     Ok(values)

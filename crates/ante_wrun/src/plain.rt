@@ -1,5 +1,5 @@
 //! The plain instructions (sections 4.4.1 to 4.4.4).
-ghost use Rattle.std.specs.Prelude.{◌≡◌, ◌<◌, ◌≤◌, ℕ, List, length};
+ghost use Rattle.std.specs.Prelude.{◌≡◌, ◌<◌, ◌==◌, if◌then◌else◌, ℕ, List, length};
 ghost use Rattle.ante_wmem.specs.Linear.{LinearMemory};
 ghost use Rattle.ante_wrun.specs.Effects.{gives, done, popped};
 ghost use Rattle.ante_wrun.specs.Machine.{values_in, values_of, Tries, TriesPlain, Ready, plain_of};
@@ -155,6 +155,13 @@ fn compare_64(values: &mut ValueStack, op: Compare) -> Tried
     Tried::Done
 }
 
+#[inline(always)]
+fn zero_test(value: u64) -> u64
+    ensures { result ≡ (if value == 0 then 1 else 0) }
+{
+    u64::from(value == 0)
+}
+
 /// Executes a plain instruction; where there is no room for its answer, or the instruction isn't plain, nothing is done.
 #[inline(always)]
 pub(crate) fn plain(
@@ -212,11 +219,11 @@ pub(crate) fn plain(
         Instr::Nop => Tried::Done,
         Instr::I32Eqz => {
             let operand = low(values.top());
-            give_for_one(values, u64::from(operand == 0))
+            give_for_one(values, zero_test(u64::from(operand)))
         }
         Instr::I64Eqz => {
             let operand = values.top();
-            give_for_one(values, u64::from(operand == 0))
+            give_for_one(values, zero_test(operand))
         }
         Instr::I32Unary(op) => {
             let operand = low(values.top());
@@ -257,5 +264,10 @@ pub(crate) fn plain_with_room(state: &mut Data, alloc: Global, instr: &Instr) ->
     if state.values.make_room(alloc).is_err() {
         return Tried::Untouched;
     }
-    plain(&mut state.values, &mut state.globals, &mut state.memory, instr)
+    plain(
+        &mut state.values,
+        &mut state.globals,
+        &mut state.memory,
+        instr,
+    )
 }

@@ -1,7 +1,8 @@
 //! Stretches of instructions that no look interrupts and that want no memory: plain ones, and branches back to the
 //! innermost loop. Their values, steps and code are kept at hand until the stretch ends.
 ghost use Rattle.std.specs.Prelude.{◌≡◌, ℕ, suc, ◌+◌, ◌-◌, ◌<◌, ◌≤◌, ◌%◌, List, Option, None, Some, length};
-ghost use Rattle.ante_wtree.specs.Expressions.{put, expression_of};
+ghost use Rattle.std.specs.Option.{IfSome};
+ghost use Rattle.ante_wtree.specs.Expressions.{Expression, BrIf, put, expression_of};
 ghost use Rattle.ante_wrun.specs.Meaning.{Outside, Program, acts, call};
 ghost use Rattle.ante_wrun.specs.Machine.{state_of, under, going};
 ghost use Rattle.ante_wrun.specs.Runs.{Begins, past, NotStuck, Sound};
@@ -36,6 +37,17 @@ pub(crate) struct Stretch<'a> {
     pub(crate) trap: Option<TrapKind>,
 }
 
+/// The label of a conditional branch.
+#[inline(always)]
+fn conditional_label(instr: &Instr) -> Option<u32>
+    ensures { IfSome result (λ n. (rest : Expression) → put instr.now rest ≡ BrIf n rest) }
+{
+    match instr {
+        Instr::BrIf(depth) => Some(*depth),
+        _ => None,
+    }
+}
+
 /// Branches back to the innermost loop, or goes on where the condition is 0. None: nothing is done.
 #[inline(always)]
 fn loop_back<'a, H: Host>(
@@ -55,9 +67,12 @@ fn loop_back<'a, H: Host>(
     ensures undone { result ≡ None → values.new ≡ values.old }
     ensures below { values.new.below ≡ values.old.below }
 {
-    let Instr::BrIf(0) = instr else {
+    let Some(depth) = conditional_label(instr) else {
         return None;
     };
+    if depth > 0 {
+        return None;
+    }
     let Some(Frame::Loop { height, body, .. }) = frames.top() else {
         return None;
     };

@@ -82,6 +82,14 @@ impl ValueStack {
         self.items.push(value)
     }
 
+    /// Puts a value on top, where room is made for it first.
+    pub(crate) fn push_with_room(&mut self, alloc: Global, value: u64) -> Result<(), AllocError>
+        ensures { OnOk result (self.new ≡ record self.old { stack = value ∷ self.old.stack }) }
+    {
+        self.make_room(alloc)?;
+        self.push(value)
+    }
+
     /// The topmost operand.
     #[inline(always)]
     pub(crate) fn top(&self) -> u64

@@ -1,32 +1,48 @@
 use Rattle.std.proofs.Common.{◌≡◌, ◌∷◌, false, length, refl, sym, ap, subst, ◌∙◌, arith}
 use Rattle.std.specs.Prelude.{◌==◌, slice_index_or}
 use Rattle.std.proofs.lemmas.Bool.{eqb-true}
-use Rattle.ante_wtree.specs.Expressions.{expression_of}
+use Rattle.ante_wtree.specs.Expressions.{Over, expression_of}
 use Rattle.ante_wrun.specs.declared.ends.RunEnd.TheVariants as end
 use Rattle.ante_wrun.specs.declared.thread.Frame.TheVariants as frame
-use Rattle.ante_wrun.specs.Effects.{done, low, top, popped}
+use Rattle.ante_wrun.specs.declared.plain.Tried.TheVariants as tried
+use Rattle.ante_wrun.specs.Effects.{low, top, popped}
 use Rattle.ante_wrun.specs.Meaning.{Branch, and_then, of_effect, jump_unless, element, on_stack, acts, does, call}
-use Rattle.ante_wrun.specs.Machine.{state_of, values_of, rest_of, under, whole, Reaches}
+use Rattle.ante_wrun.specs.Machine.{state_of, values_of, rest_of, under, whole, Reaches, Ready, TriesPlain, plain_at, plain_of}
 use Rattle.ante_wrun.specs.Control.{program_of, Leads}
 use Rattle.ante_wrun.proofs.Bodies.{again}
-use Rattle.ante_wrun.proofs.Calls.{if_ok, ended, goes_on, traps, conditional}
+use Rattle.ante_wrun.proofs.Calls.{if_ok, ended, conditional}
 use Rattle.ante_wrun.specs.Runs.{NotStuck}
 use Rattle.ante_wrun.proofs.Rules.{first_runs, has_operands, has_place, effect_is, reaches, returns, callable, leaves, alone, begins, operand, If_is, BrIf_is, BrTable_is, CallIndirect_is, MemoryGrow_is}
 use Rattle.ante_wrun.proofs.control.act.Goals as goal
 
-pub returns-in-Some-clause-leads : goal.returns-in-Some-clause-leads
-returns-in-Some-clause-leads g c = λ w last outside.
+-- the instruction is plain, and ready
+pub plain_with_room-requires : goal.plain_with_room-requires
+plain_with_room-requires g c =
     let P = program_of c.args.functions.now in
     let t = c.args.thread.now in
     let q = c.requires.sound in
     let s0 = state_of t.state q.0 c.args.left.now q.1 q.2 in
-    let so = effect_is c.in-Plain.op (values_of t.state) s0 _ (alone g.H.Host.meaning P t _ (begins g.H.Host.meaning P t _ _ s0 (c.in-Plain.ensures (expression_of t.code.now)) q.3)) in
+    let is = c.in-Plain.ensures (expression_of t.code.now) in
+    let runs = alone g.H.Host.meaning P t _ (begins g.H.Host.meaning P t _ _ s0 is q.3) in
+    record {
+      ready = subst (λ o. Ready o (values_of t.state)) (sym (ap plain_at (c.in-Plain.ensures Over)))
+          (has_operands c.in-Plain.field-0 (values_of t.state) s0 _ runs, has_place c.in-Plain.field-0 (values_of t.state) s0 _ runs);
+    }
+
+pub returns-in-Trap-clause-leads : goal.returns-in-Trap-clause-leads
+returns-in-Trap-clause-leads g c = λ w last outside.
+    let P = program_of c.args.functions.now in
+    let t = c.args.thread.now in
+    let q = c.requires.sound in
+    let s0 = state_of t.state q.0 c.args.left.now q.1 q.2 in
+    let so = effect_is c.in-Plain.field-0 (values_of t.state) s0 _ (alone g.H.Host.meaning P t _ (begins g.H.Host.meaning P t _ _ s0 (c.in-Plain.ensures (expression_of t.code.now)) q.3)) in
     let s = state_of t.state w c.args.left.now last outside in
     let m = under g.H.Host.meaning P t.free t.state.values.below in
-    let e = ap (λ x. whole g.H.Host.meaning P t (acts P (call g.H.Host.meaning P t.free) x s)) (c.in-Plain.ensures (expression_of t.code.now)) in (
+    let e = ap (λ x. whole g.H.Host.meaning P t (acts P (call g.H.Host.meaning P t.free) x s)) (c.in-Plain.ensures (expression_of t.code.now)) in
+    let d = subst (λ o. TriesPlain o (tried.Trap c.in-Trap.kind) (values_of t.state) (values_of c.plain_with_room.new.state)) (ap plain_at (c.in-Plain.ensures Over))
+    (subst (λ r. TriesPlain (plain_of c.args.instr.now) r (values_of t.state) (values_of c.plain_with_room.new.state)) c.in-Trap.is c.plain_with_room.ensures.effect) in (
       s,
-      e ∙ ap (λ x. m t.frames (of_effect x s (rest_of g.H.Host.meaning P t))) (so ∙ traps (done c.in-Plain.op (values_of t.state)) c.in_ok-plain-in-Plain.field-0 c.in-Some.kind t.state c.plain.new.state c.in_ok-plain-in-Plain.ensures.effect c.in-Some.is)
-          ∙ ended g.H.Host.meaning P t.free t.state.values.below t.frames (end.Trap c.in-Some.kind) s,
+      e ∙ ap (λ x. m t.frames (of_effect x s (rest_of g.H.Host.meaning P t))) (so ∙ d.0) ∙ ended g.H.Host.meaning P t.free t.state.values.below t.frames (end.Trap c.in-Trap.kind) s,
       refl,
       refl,
       refl,
@@ -137,19 +153,20 @@ returns-in-MemoryGrow-clause-leads g c =
     (h P w last outside))
     c.grow.ensures.leads
 
-pub returns-in-None-clause-leads : goal.returns-in-None-clause-leads
-returns-in-None-clause-leads g c = λ w last outside.
+pub returns-in-Done-clause-leads : goal.returns-in-Done-clause-leads
+returns-in-Done-clause-leads g c = λ w last outside.
     let P = program_of c.args.functions.now in
     let t = c.args.thread.now in
     let q = c.requires.sound in
     let s0 = state_of t.state q.0 c.args.left.now q.1 q.2 in
     let is = c.in-Plain.ensures (expression_of t.code.now) in
     let s = state_of t.state w c.args.left.now last outside in
-    let so = effect_is c.in-Plain.op (values_of t.state) s0 _ (alone g.H.Host.meaning P t _ (begins g.H.Host.meaning P t _ _ s0 is q.3)) in
+    let so = effect_is c.in-Plain.field-0 (values_of t.state) s0 _ (alone g.H.Host.meaning P t _ (begins g.H.Host.meaning P t _ _ s0 is q.3)) in
+    let d = subst (λ o. TriesPlain o tried.Done (values_of t.state) (values_of c.plain_with_room.new.state)) (ap plain_at (c.in-Plain.ensures Over))
+    (subst (λ r. TriesPlain (plain_of c.args.instr.now) r (values_of t.state) (values_of c.plain_with_room.new.state)) c.in-Done.is c.plain_with_room.ensures.effect) in
     ap (λ x. whole g.H.Host.meaning P t (acts P (call g.H.Host.meaning P t.free) x s)) is
-    ∙ ap (λ x. whole g.H.Host.meaning P t (of_effect x s (rest_of g.H.Host.meaning P t)))
-    (so ∙ goes_on (done c.in-Plain.op (values_of t.state)) c.in_ok-plain-in-Plain.field-0 t.state c.plain.new.state c.in_ok-plain-in-Plain.ensures.effect c.in-None.is)
-    ∙ ap (λ b. under g.H.Host.meaning P t.free b t.frames (rest_of g.H.Host.meaning P t (state_of c.plain.new.state w c.args.left.now last outside))) (sym c.in_ok-plain-in-Plain.ensures.below)
+    ∙ ap (λ x. whole g.H.Host.meaning P t (of_effect x s (rest_of g.H.Host.meaning P t))) (so ∙ d)
+    ∙ ap (λ b. under g.H.Host.meaning P t.free b t.frames (rest_of g.H.Host.meaning P t (state_of c.plain_with_room.new.state w c.args.left.now last outside))) (sym c.plain_with_room.ensures.below)
 
 pub returns-then-low-eq0-clause-leads : goal.returns-then-low-eq0-clause-leads
 returns-then-low-eq0-clause-leads g c = λ w last outside.
@@ -165,24 +182,6 @@ returns-then-low-eq0-clause-leads g c = λ w last outside.
     ∙ ap (whole g.H.Host.meaning P t) (BrIf_is P (call g.H.Host.meaning P t.free) s lt c.in-BrIf.depth (expression_of t.code.now))
     ∙ ap (λ k. whole g.H.Host.meaning P t (and_then (jump_unless (k == 0) c.in-BrIf.depth (on_stack s (popped t.state.values.stack))) (rest_of g.H.Host.meaning P t))) (n ∙ c.if-low-eq0.true)
     ∙ ap (λ v. under g.H.Host.meaning P t.free v.below t.frames (rest_of g.H.Host.meaning P t (state_of (record t.state { values = v }) w c.args.left.now last outside))) (sym c.pop-in-BrIf.ensures.rest)
-
-pub plain-requires-clause-operands : goal.plain-requires-clause-operands
-plain-requires-clause-operands g c =
-    let P = program_of c.args.functions.now in
-    let t = c.args.thread.now in
-    let q = c.requires.sound in
-    let s0 = state_of t.state q.0 c.args.left.now q.1 q.2 in
-    let is = c.in-Plain.ensures (expression_of t.code.now) in
-    has_operands c.in-Plain.op (values_of t.state) s0 _ (alone g.H.Host.meaning P t _ (begins g.H.Host.meaning P t _ _ s0 is q.3))
-
-pub plain-requires-clause-place : goal.plain-requires-clause-place
-plain-requires-clause-place g c =
-    let P = program_of c.args.functions.now in
-    let t = c.args.thread.now in
-    let q = c.requires.sound in
-    let s0 = state_of t.state q.0 c.args.left.now q.1 q.2 in
-    let is = c.in-Plain.ensures (expression_of t.code.now) in
-    has_place c.in-Plain.op (values_of t.state) s0 _ (alone g.H.Host.meaning P t _ (begins g.H.Host.meaning P t _ _ s0 is q.3))
 
 pub pop-requires : goal.pop-requires
 pop-requires g c =

@@ -26,8 +26,8 @@ returns-in-Own-clause-leads g c =
     (h program w left last outside))
     c.enter.ensures.leads
 
-pub returns-in_ok-push-in-Host-clause-leads : goal.returns-in_ok-push-in-Host-clause-leads
-returns-in_ok-push-in-Host-clause-leads g c = λ w left last outside.
+pub returns-in_ok-push_with_room-in-Host-clause-leads : goal.returns-in_ok-push_with_room-in-Host-clause-leads
+returns-in_ok-push_with_room-in-Host-clause-leads g c = λ w left last outside.
     let program = program_of c.args.functions.now in
     let t = c.args.thread.now in
     let all = c.args.functions.now.all.items in
@@ -42,13 +42,13 @@ returns-in_ok-push-in-Host-clause-leads g c = λ w left last outside.
           ∙ ap (λ b. only_if b (call_host g.H.Host.meaning kind number s)) (le-leb (length kind.params) (length t.state.values.stack) le))
           ∙ ap (λ v. under g.H.Host.meaning program t.free v.below t.frames
           (and_then (call_host g.H.Host.meaning kind number (on_stack (state_of (record t.state { values = v }) w left last outside) (popped v.stack))) (rest_of g.H.Host.meaning program t)))
-          (sym c.in_ok-push-in-Host.ensures),
-      omega (arith, le, ap (λ v. length v.stack) c.in_ok-push-in-Host.ensures),
+          (sym c.in_ok-push_with_room-in-Host.ensures),
+      omega (arith, le, ap (λ v. length v.stack) c.in_ok-push_with_room-in-Host.ensures),
       (c.args.at, f),
     )
 
-pub returns-in_ok-push-in-Host-clause-given : goal.returns-in_ok-push-in-Host-clause-given
-returns-in_ok-push-in-Host-clause-given g c =
+pub returns-in_ok-push_with_room-in-Host-clause-given : goal.returns-in_ok-push_with_room-in-Host-clause-given
+returns-in_ok-push_with_room-in-Host-clause-given g c =
     let all = c.args.functions.now.all.items in
     let lt = within all c.args.at (length c.args.thread.now.state.values.stack) c.requires.takes in
     found all c.args.at (Some c.index.result.now) (sym (slice_get_read all (length all) c.args.at c.index.result.now refl lt c.index.ensures)) ∙ ap (λ f. Some (instance_of f)) c.in-Host.is

@@ -1,4 +1,4 @@
-use Rattle.std.proofs.Common.{◌≡◌, ◌+◌, ◌≤◌, length, Option, None, Some, arith, false}
+use Rattle.std.proofs.Common.{◌≡◌, ◌+◌, ◌≤◌, length, take, ap, ◌∙◌, Option, None, Some, arith, false}
 use Rattle.ante_wrun.proofs.Regions.{view, unwound_view}
 use Rattle.ante_wrun.proofs.values.ValueStack.unwind.Goals as goal
 use Rattle.ante_wtree.specs.declared.instructions.ValueKind.{ValueKind}
@@ -15,5 +15,5 @@ returns c =
     (λ kind. c.args.height + arity kind ≤ length c.args.self.now.stack →
     view c.truncate.new.self c.self.inside.base c.self.inside.floor ≡ record { below = c.args.self.now.below; locals = c.args.self.now.locals; stack = unwound kind c.args.height c.args.self.now.stack })
     (grind (arith, c.is_none.ensures, c.if-is_none.false, c.if-is_none.ensures))
-    (λ k le. unwound_view c.self.inside.items c.self.inside.base c.self.inside.floor c.args.self.now c.self.view_is c.self.invariant.0 c.self.invariant.1 c.truncate.new.self k c.args.height c.top-answer.result c.truncate.ensures (omega (arith, le)) c.top-answer.ensures)
+    (λ k le. unwound_view c.self.inside.items c.self.inside.base c.self.inside.floor c.args.self.now c.self.view_is c.self.invariant.0 c.self.invariant.1 c.truncate.new.self k c.args.height c.top-answer.result (c.truncate.ensures ∙ ap (take (c.self.inside.floor + c.args.height + 1)) c.set.ensures) (omega (arith, le)) c.top-answer.ensures)
     c.requires
