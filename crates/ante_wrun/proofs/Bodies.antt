@@ -10,6 +10,7 @@ use Rattle.ante_wrun.specs.declared.thread.Frame.{Frame}
 use Rattle.ante_wrun.specs.declared.thread.Frame.TheVariants as frame
 use Rattle.ante_wrun.specs.Meaning.{Outside, Program, State, Outcome, Branch, and_then, turns, keep, only_if, does, call}
 use Rattle.ante_wrun.specs.Frames.{FrameValues}
+use Rattle.ante_wrun.specs.Machine as machine
 use Rattle.ante_wrun.specs.Machine.{state_of, under}
 use Rattle.ante_wrun.proofs.Falls.{HostFalls, does_lowers, call_lowers, turns_open}
 
@@ -18,7 +19,7 @@ module _ {W R : Type 0} (host : HostMeaning W R) (program : Program) (w : W) (le
   here d = state_of d w left last outside
 
   abbrev pub goes : (free : ℕ) (frames : List Frame) → Bor (List Instr) → Data → Outcome W R
-  goes free frames code d = under host program free d.values.below frames (does program (call host program free) (expression_of code.now) (here d))
+  goes free frames code d = machine.goes host program free frames code.now d.values (here d)
 
   abbrev with_values : Data → FrameValues → Data
   with_values d v = record d { values = v }

@@ -9,7 +9,7 @@ use Rattle.ante_wtree.specs.declared.instructions.PlainInstr.{PlainInstr}
 use Rattle.ante_wtree.specs.Expressions.{Expression, Plain, put}
 use Rattle.ante_wrun.specs.declared.ends.TrapKind.{TrapKind}
 use Rattle.ante_wrun.specs.declared.plain.Tried.TheVariants as tried
-use Rattle.ante_wrun.specs.Effects.{Values, Next, Traps, NoRule, effect, operands, finds, done}
+use Rattle.ante_wrun.specs.Effects.{Values, Next, Traps, NoRule, effect, operands, done}
 use Rattle.ante_wrun.specs.Frames.{FrameValues}
 use Rattle.ante_wrun.specs.Machine.{values_in, TriesPlain, Ready, plain_of}
 

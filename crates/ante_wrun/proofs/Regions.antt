@@ -1,11 +1,10 @@
 -- A list in three parts, as the values of the frames lie in it, and what the operations on the last part make of it.
-use Rattle.std.proofs.Common.{◌≡◌, ℕ, suc, ◌+◌, ◌-◌, ◌<◌, ◌≤◌, List, [], ◌∷◌, ◌++◌, length, take, drop, reverse, replicate, set, Option, None, Some, refl, sym, ap, subst, ◌∙◌, arith, length-append, length-drop, append_assoc, take-take, true}
-use Rattle.std.specs.Option.{is_some}
+use Rattle.std.proofs.Common.{◌≡◌, ℕ, suc, ◌+◌, ◌-◌, ◌<◌, ◌≤◌, List, [], ◌∷◌, ◌++◌, length, take, drop, reverse, replicate, set, Some, refl, sym, ap, subst, ◌∙◌, arith, length-append, length-drop, append_assoc, take-take}
 use Rattle.std.proofs.lemmas.List.{take-append-drop, drop-take, reverse-reverse, reverse-append, length-reverse, drop-drop, length-take-le, set_split, length-set, append-nil, set-append_left, set-append_right, take_more_set}
 use Rattle.std.proofs.Math.Seq.{take-append_seam, drop-append_seam, take-append-add, drop-append-add, drop-length}
 use Rattle.ante_wtree.specs.declared.instructions.ValueKind.{ValueKind}
 use Rattle.ante_wrun.specs.Effects.{top, popped}
-use Rattle.ante_wrun.specs.Meaning.{keep, unwound, arity, arguments}
+use Rattle.ante_wrun.specs.Meaning.{keep, unwound, arguments}
 use Rattle.ante_wrun.specs.Frames.{FrameValues}
 
 -- ---- lists from their other end
@@ -224,13 +223,6 @@ module _ (xs : List ℕ) (base floor : ℕ) (v : FrameValues) (e : view xs base 
   pub args_view : (count : ℕ) → count < length v.stack →
       take (length xs - 1 - (length xs - 1 - count)) (drop (length xs - 1 - count) xs) ≡ arguments count (popped v.stack)
   args_view count lt = args_at xs base floor b f count (omega (arith, lt, height_is)) ∙ ap (λ w. arguments count (popped w.stack)) e
-
-  pub raised : (x : ℕ) → 0 < length v.stack → take (base + 1) (set xs base x) ≡ take base xs ++ x ∷ []
-  raised x lt = take_more_set xs base x (omega (arith, b, f, lt, height_is, length-drop floor xs))
-
-pub one_result : (kind : Option ValueKind) (stack : List ℕ) → is_some kind ≡ true → 0 < length stack → take (arity kind) stack ≡ top stack ∷ []
-one_result None stack h lt = cc
-one_result (Some k) stack h lt = top_is stack lt
 
 pub kept_discard : (h count : ℕ) (stack : List ℕ) → h ≡ length stack → count < length stack → keep (h - 1 - count) stack ≡ drop count (popped stack)
 kept_discard h count stack e lt =

@@ -1,7 +1,7 @@
 -- Stretches of instructions: what the next one leads to, and what one stretch after another does.
-use Rattle.std.proofs.Common.{◌≡◌, ℕ, zero, suc, ◌+◌, ◌-◌, ◌<◌, ◌≤◌, Bool, true, false, List, [], ◌∷◌, ◌++◌, length, replicate, Option, None, Some, refl, sym, ap, subst, ◌∙◌, arith}
-use Rattle.std.specs.Prelude.{◌%◌, ◌&&◌, ◌==◌, nat_lt, if◌then◌else◌}
-use Rattle.std.proofs.lemmas.Bool.{le-leb, ltb-true}
+use Rattle.std.proofs.Common.{◌≡◌, ℕ, zero, suc, ◌+◌, ◌-◌, ◌<◌, ◌≤◌, true, false, List, [], ◌∷◌, ◌++◌, length, replicate, Option, None, Some, refl, sym, ap, subst, ◌∙◌, arith}
+use Rattle.std.specs.Prelude.{◌%◌, ◌==◌}
+use Rattle.std.proofs.lemmas.Bool.{ltb-true}
 use Rattle.std.proofs.lemmas.List.{replicate-append-replicate}
 use denote.Bor.{Bor}
 use Rattle.ante_base.specs.Stops.{Looks}
@@ -9,28 +9,27 @@ use Rattle.ante_wmem.specs.Linear.{LinearMemory}
 use Rattle.ante_wmem.specs.HostCalls.{HostMeaning}
 use Rattle.ante_wtree.specs.declared.instructions.Instr.{Instr}
 use Rattle.ante_wtree.specs.declared.instructions.PlainInstr.{PlainInstr}
-use Rattle.ante_wtree.specs.Expressions.{Expression, BrIf, expression_of, put}
+use Rattle.ante_wtree.specs.Expressions.{BrIf, expression_of, put}
 use Rattle.std.specs.declared.vec.Vec.{Vec}
 use Rattle.std.specs.declared.alloc.Global.{Global}
 use Rattle.ante_wrun.specs.declared.ends.TrapKind.{TrapKind}
 use Rattle.ante_wrun.specs.declared.ends.RunEnd.TheVariants as end
-use Rattle.ante_wrun.specs.declared.data.Data.{Data}
 use Rattle.ante_wrun.specs.declared.plain.Tried.TheVariants as tried
 use Rattle.ante_wrun.specs.declared.thread.Frame.{Frame}
 use Rattle.ante_wrun.specs.declared.thread.Frame.TheVariants as frame
 use Rattle.ante_wrun.specs.declared.thread.Thread.{Thread}
-use Rattle.ante_wrun.specs.Effects.{Values, Effect, Next, Traps, NoRule, effect, operands, finds, done, low, top, popped}
-use Rattle.ante_wrun.specs.Meaning.{Outside, after_item, Program, State, Outcome, Branch, keep, only_if, and_then, of_effect, jump_unless, seen, due, round, on_stack, stack_of, acts, does, call}
+use Rattle.ante_wrun.specs.Effects.{Values, effect, low, top, popped}
+use Rattle.ante_wrun.specs.Meaning.{Outside, after_item, Program, State, Outcome, Branch, keep, and_then, of_effect, jump_unless, seen, due, round, on_stack, acts, does, call}
 use Rattle.ante_wrun.specs.Frames.{FrameValues}
-use Rattle.ante_wrun.specs.Machine.{values_in, state_of, under, going, TriesPlain, Ready, plain_of}
+use Rattle.ante_wrun.specs.Machine.{goes, values_in, state_of, under, going, TriesPlain, Ready, plain_of}
 use Rattle.ante_wrun.specs.Control.{Stops}
 use Rattle.ante_wrun.specs.Runs.{Event, Supplied, Begins, past, looks_of, ByEvents, NotStuck, Calm, Sound}
-use Rattle.ante_wrun.specs.Stretches.{stepping, Quietly, goes, StretchLeads, HurryLeads}
+use Rattle.ante_wrun.specs.Stretches.{stepping, Quietly, CodeLeads, StretchLeads}
 use Rattle.ante_wrun.proofs.Falls.{HostFalls}
 use Rattle.ante_wrun.proofs.Bodies.{land_Loop}
 use Rattle.ante_wrun.proofs.Calls.{ended}
 use Rattle.ante_wrun.proofs.Plains.{plain_put, was_done, was_trapped, effect_of, same_values}
-use Rattle.ante_wrun.proofs.Rules.{first_runs, has_one, has_operands, has_place, inner, reaches, at_Loop, BrIf_is}
+use Rattle.ante_wrun.proofs.Rules.{has_one, has_operands, has_place, inner, reaches, at_Loop, BrIf_is}
 use Rattle.ante_wrun.proofs.Turning.{starts_put, pay_paid, begins-front, begins-back, past-append, more_events}
 
 -- ---- steps
@@ -176,10 +175,10 @@ one_more left most steps le lt = omega arith
 
 module _ {W R : Type 0} (host : HostMeaning W R) (program : Program) where
   -- a stretch, as the thread has it
-  pub hurried : (t : Thread) (trap : Option TrapKind) (w : W) (n last : ℕ) (u : Outside) (x y : Outcome W R) → x ≡ y → last ≡ suc n →
-      StretchLeads host program t.free t.frames y trap t.code.now t.state.values (stepping t.state.values t.state.globals.items t.state.memory w n u) → HurryLeads host program x trap t w n last u
-  hurried t None w n last u x y e l h = e ∙ h ∙ ap (λ k. going host program t (state_of t.state w n k u)) (sym l)
-  hurried t (Some kind) w n last u x y e l h = subst (Stops (end.Trap kind) w n u) (sym e) h
+  pub as_thread : (t : Thread) (trap : Option TrapKind) (w : W) (n last : ℕ) (u : Outside) (x y : Outcome W R) → x ≡ y → last ≡ suc n →
+      CodeLeads host program t.free t.frames y trap t.code.now t.state.values (stepping t.state.values t.state.globals.items t.state.memory w n u) → StretchLeads host program x trap t w n last u
+  as_thread t None w n last u x y e l h = e ∙ h ∙ ap (λ k. going host program t (state_of t.state w n k u)) (sym l)
+  as_thread t (Some kind) w n last u x y e l h = subst (Stops (end.Trap kind) w n u) (sym e) h
 
 module _ {W R : Type 0} where
   pub more_quiet : (F A : Outside → Outcome W R) (Q : Outcome W R → Outside → Type 0) →

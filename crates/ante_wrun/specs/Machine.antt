@@ -6,7 +6,6 @@ use Rattle.ante_wmem.specs.HostCalls.{HostMeaning}
 use Rattle.ante_wtree.specs.declared.instructions.Instr.{Instr}
 use Rattle.ante_wtree.specs.declared.instructions.PlainInstr.{PlainInstr}
 use Rattle.ante_wtree.specs.Expressions.{Expression, Over, Plain, Block, Loop, If, Br, BrIf, BrTable, Return, Call, CallIndirect, MemoryGrow, expression_of, put}
-use Rattle.ante_wrun.specs.declared.ends.TrapKind.{TrapKind}
 use Rattle.ante_wrun.specs.declared.data.Data.{Data}
 use Rattle.ante_wrun.specs.declared.plain.Tried.{Tried}
 use Rattle.ante_wrun.specs.declared.plain.Tried.TheVariants as tried
@@ -121,9 +120,13 @@ module _ {W R : Type 0} (host : HostMeaning W R) (program : Program) where
   abbrev pub rest_of : Thread → State W → Outcome W R
   rest_of t s = does program (call host program t.free) (expression_of t.code.now) s
 
+  -- the outcome of the whole from this code on, which is the rest of the innermost body
+  abbrev pub goes : (free : ℕ) → List Frame → List Instr → FrameValues → State W → Outcome W R
+  goes free frames code v s = under free v.below frames (does program (call host program free) (expression_of code) s)
+
   -- the outcome of the whole from here on
   abbrev pub going : Thread → State W → Outcome W R
-  going t s = whole t (rest_of t s)
+  going t s = goes t.free t.frames t.code.now t.state.values s
 
   -- the outcome of the whole, where this is that of the instruction before the rest
   abbrev pub after : Thread → Outcome W R → Outcome W R

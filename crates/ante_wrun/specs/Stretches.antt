@@ -4,16 +4,15 @@ use denote.Bor.{Bor}
 use Rattle.ante_wmem.specs.Linear.{LinearMemory}
 use Rattle.ante_wmem.specs.HostCalls.{HostMeaning}
 use Rattle.ante_wtree.specs.declared.instructions.Instr.{Instr}
-use Rattle.ante_wtree.specs.Expressions.{expression_of}
 use Rattle.ante_wrun.specs.declared.ends.TrapKind.{TrapKind}
 use Rattle.ante_wrun.specs.declared.ends.RunEnd.TheVariants as end
 use Rattle.ante_wrun.specs.declared.thread.Frame.{Frame}
 use Rattle.ante_wrun.specs.declared.thread.Thread.{Thread}
 use Rattle.ante_wrun.specs.declared.stretch.Moved.{Moved}
 use Rattle.ante_wrun.specs.declared.stretch.Moved.TheVariants as moved
-use Rattle.ante_wrun.specs.Meaning.{Outside, Program, State, Outcome, does, call}
+use Rattle.ante_wrun.specs.Meaning.{Outside, Program, State, Outcome}
 use Rattle.ante_wrun.specs.Frames.{FrameValues}
-use Rattle.ante_wrun.specs.Machine.{values_in, state_of, under, going}
+use Rattle.ante_wrun.specs.Machine.{values_in, state_of, goes, going}
 use Rattle.ante_wrun.specs.Control.{Stops}
 use Rattle.ante_wrun.specs.Runs.{Event, Supplied}
 
@@ -26,28 +25,24 @@ abbrev pub Quietly : (List Event → Type 0) → Type 0
 Quietly holds = (n : ℕ) × holds (replicate n Supplied)
 
 module _ {W R : Type 0} (host : HostMeaning W R) (program : Program) (free : ℕ) (frames : List Frame) where
-  -- the outcome of the whole from this code on, which is the rest of the innermost body
-  abbrev pub goes : List Instr → FrameValues → State W → Outcome W R
-  goes code v s = under host program free v.below frames (does program (call host program free) (expression_of code) s)
-
   -- a branch that was made, or none
   abbrev pub BranchLeads : Outcome W R → Option (Bor (List Instr)) → FrameValues → State W → Type 0
   BranchLeads o None v s = Unit {0}
-  BranchLeads o (Some code) v s = o ≡ goes code.now v s
+  BranchLeads o (Some code) v s = o ≡ goes host program free frames code.now v s
 
   -- one instruction, or none
   abbrev pub MoveLeads : Outcome W R → Moved → FrameValues → State W → Type 0
-  MoveLeads o (moved.To code) v s = o ≡ goes code.now v s
+  MoveLeads o (moved.To code) v s = o ≡ goes host program free frames code.now v s
   MoveLeads o (moved.Trap kind) v s = Stops (end.Trap kind) s.world s.left s.outside o
   MoveLeads o moved.Stays v s = Unit {0}
 
   -- a whole stretch
-  abbrev pub StretchLeads : Outcome W R → Option TrapKind → List Instr → FrameValues → State W → Type 0
-  StretchLeads o None code v s = o ≡ goes code v s
-  StretchLeads o (Some kind) code v s = Stops (end.Trap kind) s.world s.left s.outside o
+  abbrev pub CodeLeads : Outcome W R → Option TrapKind → List Instr → FrameValues → State W → Type 0
+  CodeLeads o None code v s = o ≡ goes host program free frames code v s
+  CodeLeads o (Some kind) code v s = Stops (end.Trap kind) s.world s.left s.outside o
 
 module _ {W R : Type 0} (host : HostMeaning W R) (program : Program) where
   -- the same, from the outcome of the whole before it
-  abbrev pub HurryLeads : Outcome W R → Option TrapKind → Thread → W → (left last : ℕ) → Outside → Type 0
-  HurryLeads o None t w left last outside = o ≡ going host program t (state_of t.state w left last outside)
-  HurryLeads o (Some kind) t w left last outside = Stops (end.Trap kind) w left outside o
+  abbrev pub StretchLeads : Outcome W R → Option TrapKind → Thread → W → (left last : ℕ) → Outside → Type 0
+  StretchLeads o None t w left last outside = o ≡ going host program t (state_of t.state w left last outside)
+  StretchLeads o (Some kind) t w left last outside = Stops (end.Trap kind) w left outside o

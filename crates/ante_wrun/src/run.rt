@@ -12,7 +12,7 @@ ghost use Rattle.ante_wrun.specs.Running.{AskedAt};
 
 use crate::control::{Functions, Next, act, call_function};
 use crate::ends::RunEnd;
-use crate::stretch::hurry;
+use crate::stretch::run_stretch;
 use crate::thread::{Thread, next_instr};
 use ante_base::Stop;
 use ante_wmem::{Host, HostAnswer, HostFn};
@@ -54,10 +54,6 @@ fn round(left: u64) -> u64
 fn is_due(left: u64, last: u64) -> bool
     ensures { result ≡ due left last }
 {
-    // One step on, and not into a lower round: so it mostly is.
-    if left % 1024 > 0 && left < last && last - left == 1 {
-        return false;
-    }
     round(left) < round(last)
 }
 
@@ -209,7 +205,7 @@ fn run_thread<'a, H: Host, P: Stop>(
     ensures sinks { left.new ≤ left.old }
 {
     'turns: loop {
-        if let Some(kind) = hurry::<H>(thread, alloc, left, last) {
+        if let Some(kind) = run_stretch::<H>(thread, alloc, left, last) {
             return Ok(Some(RunEnd::Trap(kind)));
         }
         match turn(thread, functions, alloc, host, stop, left, last) {

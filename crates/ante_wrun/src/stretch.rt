@@ -4,9 +4,9 @@ ghost use Rattle.std.specs.Prelude.{◌≡◌, ℕ, suc, ◌+◌, ◌-◌, ◌<�
 ghost use Rattle.std.specs.Option.{IfSome};
 ghost use Rattle.ante_wtree.specs.Expressions.{Expression, BrIf, put, expression_of};
 ghost use Rattle.ante_wrun.specs.Meaning.{Outside, Program, acts, call};
-ghost use Rattle.ante_wrun.specs.Machine.{state_of, under, going};
+ghost use Rattle.ante_wrun.specs.Machine.{goes, state_of, under, going};
 ghost use Rattle.ante_wrun.specs.Runs.{Begins, past, NotStuck, Sound};
-ghost use Rattle.ante_wrun.specs.Stretches.{stepping, Quietly, goes, BranchLeads, MoveLeads, StretchLeads, HurryLeads};
+ghost use Rattle.ante_wrun.specs.Stretches.{stepping, Quietly, BranchLeads, MoveLeads, CodeLeads, StretchLeads};
 
 use crate::data::low;
 use crate::ends::TrapKind;
@@ -116,7 +116,7 @@ fn advance<'a, H: Host>(
 
 /// Executes instructions, at most so many.
 #[inline(always)]
-fn run_stretch<'a, H: Host>(
+fn run_code<'a, H: Host>(
     values: &mut ValueStack,
     globals: &mut Vec<u64>,
     memory: &mut Memory,
@@ -127,7 +127,7 @@ fn run_stretch<'a, H: Host>(
     requires { (program : Program) × (w : H) × (free : ℕ) × (left : ℕ) × (most ≤ left % 1024) ×
         Sound (λ outside. goes H.meaning program free frames.now code.now values.old (stepping values.old globals.old.items memory.old w left outside)) }
     ensures leads { (program : Program) (w : H) (free left : ℕ) → most ≤ left % 1024 → Quietly (λ events. (outside : Outside) → Begins outside events →
-        StretchLeads H.meaning program free frames.now
+        CodeLeads H.meaning program free frames.now
         (goes H.meaning program free frames.now code.entry.now values.old (stepping values.old globals.old.items memory.old w left outside))
         result.trap result.code.now values.new (stepping values.new globals.new.items memory.new w (left - result.steps) (past outside events))) }
     ensures few { result.steps ≤ most }
@@ -166,7 +166,7 @@ fn run_stretch<'a, H: Host>(
 
 /// Executes the instructions that are next, up to the next look. The answer is the trap of the last one, if it has one.
 #[inline(never)]
-pub(crate) fn hurry<'a, H: Host>(
+pub(crate) fn run_stretch<'a, H: Host>(
     thread: &mut Thread<'a>,
     alloc: Global,
     left: &mut u64,
@@ -174,7 +174,7 @@ pub(crate) fn hurry<'a, H: Host>(
 ) -> Option<TrapKind>
     requires { (program : Program) × (w : H) × Sound (λ outside. going H.meaning program thread.old (state_of thread.old.state w left.old last.old outside)) }
     ensures leads { (program : Program) (w : H) → Quietly (λ events. (outside : Outside) → Begins outside events →
-        HurryLeads H.meaning program
+        StretchLeads H.meaning program
         (going H.meaning program thread.old (state_of thread.old.state w left.old last.old outside))
         result thread.new w left.new last.new (past outside events)) }
     ensures sinks { left.new ≤ left.old }
@@ -186,7 +186,7 @@ pub(crate) fn hurry<'a, H: Host>(
         return None;
     }
     let mut values = mem::replace(&mut thread.state.values, ValueStack::new(alloc));
-    let done = run_stretch::<H>(
+    let done = run_code::<H>(
         &mut values,
         &mut thread.state.globals,
         &mut thread.state.memory,

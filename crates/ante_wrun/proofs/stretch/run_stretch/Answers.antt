@@ -1,61 +1,37 @@
-use Rattle.std.proofs.Common.{◌≡◌, ℕ, ◌+◌, ◌-◌, ◌∙◌, subst, arith}
-use Rattle.ante_wrun.specs.declared.ends.RunEnd.TheVariants as end
+use Rattle.std.proofs.Common.{◌≡◌, suc, ◌-◌, sym, subst, ap, ◌∙◌, arith}
 use Rattle.ante_wrun.specs.Meaning.{Outside}
-use Rattle.ante_wrun.specs.Control.{Stops}
-use Rattle.ante_wrun.specs.Runs.{Begins, past}
-use Rattle.ante_wrun.specs.Stretches.{stepping, Quietly, goes}
-use Rattle.ante_wrun.proofs.Stretching.{more_quiet, sound_after, in_round, one_more, stayed}
+use Rattle.ante_wrun.specs.Machine.{goes, state_of, going}
+use Rattle.ante_wrun.specs.Runs.{Sound}
+use Rattle.ante_wrun.specs.Stretches.{stepping}
+use Rattle.ante_wrun.proofs.Stretching.{as_thread}
 use Rattle.ante_wrun.proofs.stretch.run_stretch.Goals as goal
 
-pub advance-requires : goal.advance-requires
-advance-requires g c =
+pub run_code-done-requires : goal.run_code-done-requires
+run_code-done-requires g c =
     let q = c.requires in
-    let l = c.instructions in (
+    let t = c.args.thread.now in
+    let left = c.args.left.now in
+    let one : c.args.last.now ≡ suc left = omega (arith, c.if-last-left.false, c.if-last-left-gt1.false) in (
       q.0,
       q.1,
-      q.2,
-      q.3 - l.steps,
-      in_round q.3 c.args.most l.steps q.4 c.instructions-test.true,
-      sound_after
-          (λ v. goes g.H.Host.meaning q.0 q.2 c.args.frames.now c.args.code.now c.args.values.now (stepping c.args.values.now c.args.globals.now.items c.args.memory.now q.1 q.3 v))
-          (λ u. goes g.H.Host.meaning q.0 q.2 c.args.frames.now l.rest.now l.values (stepping l.values l.globals.items l.memory q.1 (q.3 - l.steps) u))
-          q.5 (l.invariant.0 q.0 q.1 q.2 q.3 q.4),
+      t.free,
+      left,
+      omega arith,
+      subst (λ v. Sound (λ o. goes g.H.Host.meaning q.0 t.free t.frames t.code.now v (stepping v t.state.globals.items t.state.memory q.1 left o))) (sym c.replace-values.ensures.value)
+          (subst (λ n. Sound (λ o. going g.H.Host.meaning q.0 t (state_of t.state q.1 left n o))) one q.2),
     )
 
-pub instructions-preserved : goal.instructions-preserved
-instructions-preserved g c =
-    let l = c.instructions in
-    let new = c.advance.new in (
-      λ program w free left le.
-          let at = λ (k : ℕ) (u : Outside). goes g.H.Host.meaning program free c.args.frames.now c.in-To.code.now new.values (stepping new.values new.globals.items new.memory w k u) in
-          let now = λ (u : Outside). goes g.H.Host.meaning program free c.args.frames.now l.rest.now l.values (stepping l.values l.globals.items l.memory w (left - l.steps) u) in
-          more_quiet
-          (λ v. goes g.H.Host.meaning program free c.args.frames.now c.args.code.now c.args.values.now (stepping c.args.values.now c.args.globals.now.items c.args.memory.now w left v))
-          now (λ o u. o ≡ at (left - (l.steps + 1)) u)
-          (l.invariant.0 program w free left le)
-          (subst (λ k. Quietly (λ events. (u : Outside) → Begins u events → now u ≡ at k (past u events))) (one_more left c.args.most l.steps le c.instructions-test.true)
-          (c.in-To.ensures.leads program w free (left - l.steps) (in_round left c.args.most l.steps le c.instructions-test.true))),
-      omega (arith, c.instructions-test.true),
-      c.advance.ensures.below ∙ l.invariant.2,
+pub returns-clause-leads : goal.returns-clause-leads
+returns-clause-leads g c = λ program w.
+    let t = c.args.thread.now in
+    let left = c.args.left.now in
+    let done = c.run_code-done.result in
+    let one : c.args.last.now ≡ suc left = omega (arith, c.if-last-left.false, c.if-last-left-gt1.false) in
+    let few = c.run_code-done.ensures.few in
+    let last : c.args.last.now - done.steps ≡ suc (left - done.steps) = omega (arith, one, few) in
+    let same = λ (o : Outside). ap (λ n. going g.H.Host.meaning program t (state_of t.state w left n o)) one
+    ∙ ap (λ v. goes g.H.Host.meaning program t.free t.frames t.code.now v (stepping v t.state.globals.items t.state.memory w left o)) (sym c.replace-values.ensures.value) in
+    let h = c.run_code-done.ensures.leads program w t.free left (omega arith) in (
+      h.0,
+      λ o b. as_thread g.H.Host.meaning program _ done.trap w (left - done.steps) (c.args.last.now - done.steps) _ _ _ (same o) last (h.1 o b),
     )
-
-pub returns-in-Trap-clause-leads : goal.returns-in-Trap-clause-leads
-returns-in-Trap-clause-leads g c = λ program w free left le.
-    let l = c.instructions in
-    let now = λ (u : Outside). goes g.H.Host.meaning program free c.args.frames.now l.rest.now l.values (stepping l.values l.globals.items l.memory w (left - l.steps) u) in
-    more_quiet
-    (λ v. goes g.H.Host.meaning program free c.args.frames.now c.args.code.now c.args.values.now (stepping c.args.values.now c.args.globals.now.items c.args.memory.now w left v))
-    now (λ o u. Stops (end.Trap c.in-Trap.kind) w (left - (l.steps + 1)) u o)
-    (l.invariant.0 program w free left le)
-    (subst (λ k. Quietly (λ events. (u : Outside) → Begins u events → Stops (end.Trap c.in-Trap.kind) w k (past u events) (now u))) (one_more left c.args.most l.steps le c.instructions-test.true)
-    (c.in-Trap.ensures.leads program w free (left - l.steps) (in_round left c.args.most l.steps le c.instructions-test.true)))
-
-pub returns-in-Stays-clause-leads : goal.returns-in-Stays-clause-leads
-returns-in-Stays-clause-leads g c = λ program w free left le.
-    let l = c.instructions in
-    let new = c.advance.new in
-    stayed l.values new.values l.globals.items new.globals.items l.memory new.memory (c.advance.ensures.undone c.in-Stays.is)
-    (λ v globals memory. Quietly (λ events. (outside : Outside) → Begins outside events →
-    goes g.H.Host.meaning program free c.args.frames.now c.args.code.now c.args.values.now (stepping c.args.values.now c.args.globals.now.items c.args.memory.now w left outside)
-    ≡ goes g.H.Host.meaning program free c.args.frames.now l.rest.now v (stepping v globals memory w (left - l.steps) (past outside events))))
-    (l.invariant.0 program w free left le)

@@ -2,8 +2,9 @@ use Rattle.std.proofs.Common.{◌≡◌, ℕ, ◌-◌, ◌≤◌}
 use Rattle.std.specs.Prelude.{◌%◌}
 use Rattle.ante_wrun.specs.Meaning.{Outside, Program}
 use Rattle.ante_wrun.specs.Runs.{Begins, past}
-use Rattle.ante_wrun.specs.Stretches.{stepping, Quietly, goes}
-use Rattle.ante_wrun.proofs.stretch.run_stretch.Given as goal
+use Rattle.ante_wrun.specs.Machine.{goes}
+use Rattle.ante_wrun.specs.Stretches.{stepping, Quietly}
+use Rattle.ante_wrun.proofs.stretch.run_code.Given as goal
 
 abbrev pub invariant-instructions : goal.invariant-instructions
 invariant-instructions g l =
