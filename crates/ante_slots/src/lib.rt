@@ -1,7 +1,7 @@
-//! A list of numbers that takes no memory while it grows within its room.
+//! A list of numbers that takes no memory while it grows within its space.
 #![tactic(auto)]
 
-ghost use Rattle.std.specs.Prelude.{◌≡◌, ◌+◌, ◌-◌, ◌<◌, ◌≤◌, ◌++◌, ◌∷◌, [], length, take, replicate, slice_index, slice_set, OnOk, OnErr};
+ghost use Rattle.std.specs.Prelude.{◌≡◌, ◌+◌, ◌-◌, ◌<◌, ◌≤◌, ◌++◌, ◌∷◌, [], nat_lt, is_ok, length, take, replicate, slice_index, slice_set, OnOk, OnErr};
 
 use std::alloc::{AllocError, Global};
 use std::marker::Model;
@@ -17,18 +17,19 @@ pub struct Slots {
 }
 
 impl Model for Slots {
-    ghost use Rattle.std.specs.Prelude.{ℕ, List, ◌≤◌, length, take};
+    ghost use Rattle.std.specs.Prelude.{◌≤◌, length, take};
+    ghost use Rattle.ante_slots.specs.Filled.{Filled};
 
-    ghost Value = { List ℕ };
+    ghost Value = { Filled };
 
-    ghost view = { λ s. take s.count s.slots.items };
+    ghost view = { λ s. record { items = take s.count s.slots.items; space = length s.slots.items } };
 
     ghost invariant = { λ s. s.count ≤ length s.slots.items };
 }
 
 impl Slots {
     pub fn new(alloc: Global) -> Slots
-        ensures { result ≡ [] }
+        ensures { result ≡ record { items = []; space = 0 } }
     {
         Slots {
             slots: Vec::new(alloc),
@@ -38,14 +39,16 @@ impl Slots {
 
     #[inline(always)]
     pub fn len(&self) -> usize
-        ensures { result ≡ length self.now }
+        ensures { result ≡ length self.now.items }
     {
         self.count
     }
 
     /// Makes room for so many further numbers.
     pub fn make_room(&mut self, _alloc: Global, more: usize) -> Result<(), AllocError>
-        ensures { self.new ≡ self.old }
+        ensures ok { OnOk result (length self.new.items + more ≤ self.new.space) }
+        ensures err { OnErr result (self.new.space ≡ self.old.space) }
+        ensures items { self.new.items ≡ self.old.items }
     {
         let size = self.slots.as_slice().len();
         if size - self.count >= more {
@@ -59,8 +62,10 @@ impl Slots {
     /// Adds a number at the end, where there is room for it.
     #[inline(always)]
     pub fn push(&mut self, value: u64) -> Result<(), AllocError>
-        ensures ok { OnOk result (self.new ≡ self.old ++ value ∷ []) }
-        ensures err { OnErr result (self.new ≡ self.old) }
+        ensures room { is_ok result ≡ nat_lt (length self.old.items) self.old.space }
+        ensures ok { OnOk result (self.new.items ≡ self.old.items ++ value ∷ []) }
+        ensures err { OnErr result (self.new.items ≡ self.old.items) }
+        ensures space { self.new.space ≡ self.old.space }
     {
         if self.count >= self.slots.as_slice().len() {
             return Err(AllocError);
@@ -72,16 +77,17 @@ impl Slots {
 
     #[inline(always)]
     pub fn at(&self, at: usize) -> u64
-        requires { at < length self.now }
-        ensures { result ≡ slice_index self.now at }
+        requires { at < length self.now.items }
+        ensures { result ≡ slice_index self.now.items at }
     {
         self.slots[at]
     }
 
     #[inline(always)]
     pub fn set(&mut self, at: usize, value: u64)
-        requires { at < length self.old }
-        ensures { self.new ≡ slice_set self.old at value }
+        requires { at < length self.old.items }
+        ensures items { self.new.items ≡ slice_set self.old.items at value }
+        ensures space { self.new.space ≡ self.old.space }
     {
         self.slots[at] = value;
     }
@@ -89,16 +95,17 @@ impl Slots {
     /// Leaves the first numbers.
     #[inline(always)]
     pub fn truncate(&mut self, count: usize)
-        requires { count ≤ length self.old }
-        ensures { self.new ≡ take count self.old }
+        requires { count ≤ length self.old.items }
+        ensures items { self.new.items ≡ take count self.old.items }
+        ensures space { self.new.space ≡ self.old.space }
     {
         self.count = count;
     }
 
     /// Adds so many zeros at the end.
     pub fn add_zeros(&mut self, alloc: Global, zeros: usize) -> Result<(), AllocError>
-        ensures ok { OnOk result (self.new ≡ self.old ++ replicate zeros 0) }
-        ensures err { OnErr result (self.new ≡ self.old) }
+        ensures ok { OnOk result (self.new.items ≡ self.old.items ++ replicate zeros 0) }
+        ensures err { OnErr result (self.new.items ≡ self.old.items) }
     {
         let count = self.count;
         self.make_room(alloc, zeros)?;
@@ -112,7 +119,7 @@ impl Slots {
     }
 
     pub fn as_slice(&self) -> &[u64]
-        ensures { result.now ≡ self.now }
+        ensures { result.now ≡ self.now.items }
     {
         &self.slots.as_slice()[..self.count]
     }

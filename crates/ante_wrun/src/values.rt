@@ -25,12 +25,12 @@ impl Model for ValueStack {
     ghost Value = { FrameValues };
 
     ghost view = { λ s. record {
-      below = take s.base s.items;
-      locals = take (s.floor - s.base) (drop s.base s.items);
-      stack = reverse (drop s.floor s.items);
+      below = take s.base s.items.items;
+      locals = take (s.floor - s.base) (drop s.base s.items.items);
+      stack = reverse (drop s.floor s.items.items);
     } };
 
-    ghost invariant = { λ s. (s.base ≤ s.floor) × (s.floor ≤ length s.items) };
+    ghost invariant = { λ s. (s.base ≤ s.floor) × (s.floor ≤ length s.items.items) };
 }
 
 impl ValueStack {
@@ -264,9 +264,9 @@ fn mask(kind: ValueKind, value: u64) -> u64
 
 /// Masks as many values as there are kinds, from a place on.
 fn mask_from(values: &mut Slots, first: usize, kinds: &[ValueKind])
-    requires { first + length kinds.now ≤ length values.old }
-    ensures values { values.new ≡ take first values.old ++ (masked kinds.now (take (length kinds.now) (drop first values.old)) ++ drop (length kinds.now) (drop first values.old)) }
-    ensures length { length values.new ≡ length values.old }
+    requires { first + length kinds.now ≤ length values.old.items }
+    ensures values { values.new.items ≡ take first values.old.items ++ (masked kinds.now (take (length kinds.now) (drop first values.old.items)) ++ drop (length kinds.now) (drop first values.old.items)) }
+    ensures length { length values.new.items ≡ length values.old.items }
 {
     let (mut at, mut kind) = (first, kinds);
     'kinds: while let Some((next, rest)) = kind.split_first() {
