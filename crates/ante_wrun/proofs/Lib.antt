@@ -17,4 +17,5 @@ pub mod Programs
 pub mod Assured
 pub mod Safe
 pub mod GivenTypes
+pub mod Landing
 pub mod Stretching

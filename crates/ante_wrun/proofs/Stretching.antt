@@ -1,35 +1,29 @@
 -- Stretches of instructions: what the next one leads to, and what one stretch after another does.
-use Rattle.std.proofs.Common.{◌≡◌, ℕ, zero, suc, ◌+◌, ◌-◌, ◌<◌, ◌≤◌, true, false, List, [], ◌∷◌, ◌++◌, length, replicate, Option, None, Some, refl, sym, ap, subst, ◌∙◌, arith}
-use Rattle.std.specs.Prelude.{◌%◌, ◌==◌}
+use Rattle.std.proofs.Common.{◌≡◌, ℕ, zero, suc, ◌+◌, ◌-◌, ◌<◌, ◌≤◌, false, List, [], ◌∷◌, ◌++◌, replicate, Option, None, Some, refl, sym, ap, subst, ◌∙◌, arith}
+use Rattle.std.specs.Prelude.{◌%◌}
 use Rattle.std.proofs.lemmas.Bool.{ltb-true}
 use Rattle.std.proofs.lemmas.List.{replicate-append-replicate}
-use denote.Bor.{Bor}
 use Rattle.ante_base.specs.Stops.{Looks}
 use Rattle.ante_wmem.specs.Linear.{LinearMemory}
 use Rattle.ante_wmem.specs.HostCalls.{HostMeaning}
 use Rattle.ante_wtree.specs.declared.instructions.Instr.{Instr}
 use Rattle.ante_wtree.specs.declared.instructions.PlainInstr.{PlainInstr}
-use Rattle.ante_wtree.specs.Expressions.{BrIf, expression_of, put}
-use Rattle.std.specs.declared.vec.Vec.{Vec}
-use Rattle.std.specs.declared.alloc.Global.{Global}
+use Rattle.ante_wtree.specs.Expressions.{expression_of, put}
 use Rattle.ante_wrun.specs.declared.ends.TrapKind.{TrapKind}
 use Rattle.ante_wrun.specs.declared.ends.RunEnd.TheVariants as end
 use Rattle.ante_wrun.specs.declared.plain.Tried.TheVariants as tried
 use Rattle.ante_wrun.specs.declared.thread.Frame.{Frame}
-use Rattle.ante_wrun.specs.declared.thread.Frame.TheVariants as frame
 use Rattle.ante_wrun.specs.declared.thread.Thread.{Thread}
-use Rattle.ante_wrun.specs.Effects.{Values, effect, low, top, popped}
-use Rattle.ante_wrun.specs.Meaning.{Outside, after_item, Program, State, Outcome, Branch, keep, and_then, of_effect, jump_unless, seen, due, round, on_stack, acts, does, call}
+use Rattle.ante_wrun.specs.Effects.{Values, effect}
+use Rattle.ante_wrun.specs.Meaning.{Outside, after_item, Program, State, Outcome, of_effect, seen, due, round, acts, does, call}
 use Rattle.ante_wrun.specs.Frames.{FrameValues}
 use Rattle.ante_wrun.specs.Machine.{goes, values_in, state_of, under, going, TriesPlain, Ready, plain_of}
 use Rattle.ante_wrun.specs.Control.{Stops}
 use Rattle.ante_wrun.specs.Runs.{Event, Supplied, Begins, past, looks_of, ByEvents, NotStuck, Calm, Sound}
 use Rattle.ante_wrun.specs.Stretches.{stepping, Quietly, CodeLeads, StretchLeads}
-use Rattle.ante_wrun.proofs.Falls.{HostFalls}
-use Rattle.ante_wrun.proofs.Bodies.{land_Loop}
 use Rattle.ante_wrun.proofs.Calls.{ended}
 use Rattle.ante_wrun.proofs.Plains.{plain_put, was_done, was_trapped, effect_of, same_values}
-use Rattle.ante_wrun.proofs.Rules.{has_one, has_operands, has_place, inner, reaches, at_Loop, BrIf_is}
+use Rattle.ante_wrun.proofs.Rules.{has_operands, has_place, inner}
 use Rattle.ante_wrun.proofs.Turning.{starts_put, pay_paid, begins-front, begins-back, past-append, more_events}
 
 -- ---- steps
@@ -94,47 +88,6 @@ module _ {W R : Type 0} (host : HostMeaning W R) (program : Program) (free : ℕ
           refl,
           refl,
         )
-
-    -- a branch to the loop on top, where the condition isn't 0
-    pub branch_operand : (n : ℕ) → put i (expression_of rest) ≡ BrIf n (expression_of rest) → NotStuck (acting i rest v here) → 0 < length v.stack
-    branch_operand n e h =
-        has_one v.stack here _ (inner host program free v.below frames _ (subst (λ x. NotStuck (under host program free v.below frames (acts program (call host program free) x here))) e h))
-
-    as_branch : (n : ℕ) → put i (expression_of rest) ≡ BrIf n (expression_of rest) → 0 < length v.stack →
-        acting i rest v here ≡ under host program free v.below frames (and_then (jump_unless (low (top v.stack) == 0) n (on_stack here (popped v.stack))) (does program (call host program free) (expression_of rest)))
-    as_branch n e lt =
-        ap (λ x. under host program free v.below frames (acts program (call host program free) x here)) e
-        ∙ ap (under host program free v.below frames) (BrIf_is program (call host program free) here lt n (expression_of rest))
-
-    pub not_branched : (n : ℕ) (v' : FrameValues) → put i (expression_of rest) ≡ BrIf n (expression_of rest) → 0 < length v.stack → (low (top v.stack) == 0) ≡ true →
-        v' ≡ record { below = v.below; locals = v.locals; stack = popped v.stack } → acting i rest v here ≡ goes host program free frames rest v' (stepping v' g m w left o)
-    not_branched n v' e lt z k =
-        as_branch n e lt
-        ∙ ap (λ b. under host program free v.below frames (and_then (jump_unless b n (on_stack here (popped v.stack))) (does program (call host program free) (expression_of rest)))) z
-        ∙ ap (λ x. goes host program free frames rest x (stepping x g m w left o)) (sym k)
-
-    taken : (n : ℕ) → put i (expression_of rest) ≡ BrIf n (expression_of rest) → 0 < length v.stack → (low (top v.stack) == 0) ≡ false →
-        acting i rest v here ≡ under host program free v.below frames (Branch n (on_stack here (popped v.stack)))
-    taken n e lt z =
-        as_branch n e lt
-        ∙ ap (λ b. under host program free v.below frames (and_then (jump_unless b n (on_stack here (popped v.stack))) (does program (call host program free) (expression_of rest)))) z
-
-    pub branch_height : (height : ℕ) (body after : Bor (List Instr)) (others : List Frame) → put i (expression_of rest) ≡ BrIf 0 (expression_of rest) → frames ≡ frame.Loop height body after ∷ others →
-        (low (top v.stack) == 0) ≡ false → NotStuck (acting i rest v here) → height ≤ length (popped v.stack)
-    branch_height height body after others e f z h =
-        at_Loop frames others height body after 0 (length (popped v.stack)) f refl
-        (reaches host program free v.below frames 0 (on_stack here (popped v.stack)) (subst NotStuck (taken 0 e (branch_operand 0 e h) z) h))
-
-    pub branched : HostFalls host → (globals : Vec ℕ Global) → globals.items ≡ g → (height : ℕ) (body after : Bor (List Instr)) (others : List Frame) (v1 v2 : FrameValues) →
-        put i (expression_of rest) ≡ BrIf 0 (expression_of rest) → frames ≡ frame.Loop height body after ∷ others → 0 < length v.stack → (low (top v.stack) == 0) ≡ false →
-        v1 ≡ record { below = v.below; locals = v.locals; stack = popped v.stack } → height ≤ length v1.stack → v2 ≡ record { below = v1.below; locals = v1.locals; stack = keep height v1.stack } →
-        acting i rest v here ≡ goes host program free frames body.now v2 (stepping v2 g m w left o)
-    branched falls globals ge height body after others v1 v2 e f lt z k le l =
-        taken 0 e lt z
-        ∙ ap (λ x. under host program free x.below frames (Branch 0 (stepping x g m w left o))) (sym k)
-        ∙ ap (λ x. under host program free v1.below frames (Branch 0 (stepping v1 x m w left o))) (sym ge)
-        ∙ land_Loop host program w left (suc left) o falls free 0 frames others (record { values = v1; globals = globals; memory = m }) height body after v2 f refl le l
-        ∙ ap (λ x. goes host program free frames body.now v2 (stepping v2 x m w left o)) ge
 
   -- ---- the next instruction
 
@@ -204,6 +157,13 @@ calm_begins (suc n) v h = (h.1 v.items, calm_begins n (after_item v) h)
 calm_past : (n : ℕ) (v : Outside) → Calm v → Calm (past v (replicate n Supplied))
 calm_past zero v h = h
 calm_past (suc n) v h = calm_past n (after_item v) h
+
+pub same_sound : {W R : Type 0} (F A : Outside → Outcome W R) → ((v : Outside) → F v ≡ A v) → Sound F → Sound A
+same_sound F A e s = (s.0, s.1, subst NotStuck (e s.0) s.2)
+
+pub quiet_from : {W R : Type 0} (F A : Outside → Outcome W R) (Q : Outcome W R → Outside → Type 0) → ((v : Outside) → F v ≡ A v) →
+    Quietly (λ events. (v : Outside) → Begins v events → Q (A v) (past v events)) → Quietly (λ events. (v : Outside) → Begins v events → Q (F v) (past v events))
+quiet_from F A Q e h = (h.0, λ v b. subst (λ x. Q x (past v (replicate h.0 Supplied))) (sym (e v)) (h.1 v b))
 
 pub sound_after : {W R : Type 0} (F A : Outside → Outcome W R) → Sound F → Quietly (λ events. (v : Outside) → Begins v events → F v ≡ A (past v events)) → Sound A
 sound_after F A s h = (past s.0 (replicate h.0 Supplied), calm_past h.0 s.0 s.1, subst NotStuck (h.1 s.0 (calm_begins h.0 s.0 s.1)) s.2)

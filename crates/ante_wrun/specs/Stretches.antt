@@ -7,6 +7,7 @@ use Rattle.ante_wtree.specs.declared.instructions.Instr.{Instr}
 use Rattle.ante_wrun.specs.declared.ends.TrapKind.{TrapKind}
 use Rattle.ante_wrun.specs.declared.ends.RunEnd.TheVariants as end
 use Rattle.ante_wrun.specs.declared.thread.Frame.{Frame}
+use Rattle.ante_wrun.specs.declared.thread.Frame.TheVariants as frame
 use Rattle.ante_wrun.specs.declared.thread.Thread.{Thread}
 use Rattle.ante_wrun.specs.declared.stretch.Moved.{Moved}
 use Rattle.ante_wrun.specs.declared.stretch.Moved.TheVariants as moved
@@ -23,6 +24,16 @@ stepping v globals memory w left outside = record { values = values_in v globals
 -- some number of instructions had the memory that they wanted, and nothing else was asked of the outside
 abbrev pub Quietly : (List Event → Type 0) → Type 0
 Quietly holds = (n : ℕ) × holds (replicate n Supplied)
+
+-- the code and the open bodies may be exchanged: the whole has the same outcome
+abbrev pub SameFrom : {W R : Type 0} → HostMeaning W R → List Frame → List Instr → List Frame → List Instr → Type 0
+SameFrom {W} host frames code frames' code' = (program : Program) (free : ℕ) (v : FrameValues) (s : State W) → goes host program free frames code v s ≡ goes host program free frames' code' v s
+
+-- a block or a loop
+abbrev pub IsInner : Frame → Type 0
+IsInner (frame.Block kind height rest) = Unit {0}
+IsInner (frame.Loop height body rest) = Unit {0}
+IsInner (frame.Call kind base locals free rest) = ⊥
 
 module _ {W R : Type 0} (host : HostMeaning W R) (program : Program) (free : ℕ) (frames : List Frame) where
   -- a branch that was made, or none

@@ -245,7 +245,7 @@ fn label(labels: &[u32], last: u32, at: u32) -> u32
     if at < labels.len() { labels[at] } else { last }
 }
 
-fn chosen<'a>(test: u32, one: &'a [Instr], two: &'a [Instr]) -> &'a [Instr]
+pub(crate) fn chosen<'a>(test: u32, one: &'a [Instr], two: &'a [Instr]) -> &'a [Instr]
     ensures { result ≡ (if test == 0 then two.entry else one.entry) }
 {
     if test == 0 { two } else { one }

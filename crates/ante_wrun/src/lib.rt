@@ -1,6 +1,7 @@
 //! The interpreter of WebAssembly Core 1.0 (section 4), exact to the last step.
 #![tactic(auto)]
 
+mod blocks;
 mod control;
 mod data;
 mod ends;

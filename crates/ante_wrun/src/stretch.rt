@@ -1,14 +1,12 @@
-//! Stretches of instructions that no look interrupts and that want no memory: plain ones, and branches back to the
-//! innermost loop. Their values, steps and code are kept at hand until the stretch ends.
+//! Stretches of instructions that no look interrupts and that want no memory: plain ones, and blocks and branches inside a
+//! function. Their values, steps and code are kept at hand until the stretch ends.
 ghost use Rattle.std.specs.Prelude.{◌≡◌, ℕ, suc, ◌+◌, ◌-◌, ◌<◌, ◌≤◌, ◌%◌, List, Option, None, Some, length};
-ghost use Rattle.std.specs.Option.{IfSome};
-ghost use Rattle.ante_wtree.specs.Expressions.{Expression, BrIf, put, expression_of};
-ghost use Rattle.ante_wrun.specs.Meaning.{Outside, Program, acts, call};
-ghost use Rattle.ante_wrun.specs.Machine.{goes, state_of, under, going};
-ghost use Rattle.ante_wrun.specs.Runs.{Begins, past, NotStuck, Sound};
-ghost use Rattle.ante_wrun.specs.Stretches.{stepping, Quietly, BranchLeads, MoveLeads, CodeLeads, StretchLeads};
+ghost use Rattle.ante_wrun.specs.Meaning.{Outside, Program};
+ghost use Rattle.ante_wrun.specs.Machine.{goes, state_of, going, IsNested, Nested};
+ghost use Rattle.ante_wrun.specs.Runs.{Begins, past, Sound};
+ghost use Rattle.ante_wrun.specs.Stretches.{stepping, Quietly, MoveLeads, CodeLeads, StretchLeads};
 
-use crate::data::low;
+use crate::blocks::{after_blocks, control_within};
 use crate::ends::TrapKind;
 use crate::plain::{Tried, plain};
 use crate::thread::{Frame, Thread};
@@ -37,69 +35,25 @@ pub(crate) struct Stretch<'a> {
     pub(crate) trap: Option<TrapKind>,
 }
 
-/// The label of a conditional branch.
-#[inline(always)]
-fn conditional_label(instr: &Instr) -> Option<u32>
-    ensures { IfSome result (λ n. (rest : Expression) → put instr.now rest ≡ BrIf n rest) }
-{
-    match instr {
-        Instr::BrIf(depth) => Some(*depth),
-        _ => None,
-    }
-}
-
-/// Branches back to the innermost loop, or goes on where the condition is 0. None: nothing is done.
-#[inline(always)]
-fn loop_back<'a, H: Host>(
-    values: &mut ValueStack,
-    globals: &Vec<u64>,
-    memory: &Memory,
-    frames: &Stack<Frame<'a>>,
-    instr: &Instr,
-    rest: &'a [Instr],
-) -> Option<&'a [Instr]>
-    requires { (program : Program) × (w : H) × (free : ℕ) × (left : ℕ) × (outside : Outside) ×
-        NotStuck (under H.meaning program free values.old.below frames.now (acts program (call H.meaning program free) (put instr.now (expression_of rest.now)) (stepping values.old globals.now.items memory.now w left outside))) }
-    ensures leads { (program : Program) (w : H) (free left : ℕ) (outside : Outside) →
-        BranchLeads H.meaning program free frames.now
-        (under H.meaning program free values.old.below frames.now (acts program (call H.meaning program free) (put instr.now (expression_of rest.entry.now)) (stepping values.old globals.now.items memory.now w left outside)))
-        result values.new (stepping values.new globals.now.items memory.now w left outside) }
-    ensures undone { result ≡ None → values.new ≡ values.old }
-    ensures below { values.new.below ≡ values.old.below }
-{
-    let Some(depth) = conditional_label(instr) else {
-        return None;
-    };
-    if depth > 0 {
-        return None;
-    }
-    let Some(Frame::Loop { height, body, .. }) = frames.top() else {
-        return None;
-    };
-    if low(values.pop()) == 0 {
-        return Some(rest);
-    }
-    values.keep(height);
-    Some(body)
-}
-
 /// Executes the next instruction, if it is one for a stretch.
 #[inline(always)]
 fn advance<'a, H: Host>(
     values: &mut ValueStack,
     globals: &mut Vec<u64>,
     memory: &mut Memory,
-    frames: &Stack<Frame<'a>>,
+    frames: &mut Stack<Frame<'a>>,
+    alloc: Global,
     code: &'a [Instr],
 ) -> Moved<'a>
     requires { (program : Program) × (w : H) × (free : ℕ) × (left : ℕ) × (0 < left % 1024) ×
-        Sound (λ outside. goes H.meaning program free frames.now code.now values.old (stepping values.old globals.old.items memory.old w left outside)) }
+        Sound (λ outside. goes H.meaning program free frames.old code.now values.old (stepping values.old globals.old.items memory.old w left outside)) }
     ensures leads { (program : Program) (w : H) (free left : ℕ) → 0 < left % 1024 → Quietly (λ events. (outside : Outside) → Begins outside events →
-        MoveLeads H.meaning program free frames.now
-        (goes H.meaning program free frames.now code.entry.now values.old (stepping values.old globals.old.items memory.old w left outside))
+        MoveLeads H.meaning program free frames.new
+        (goes H.meaning program free frames.old code.entry.now values.old (stepping values.old globals.old.items memory.old w left outside))
         result values.new (stepping values.new globals.new.items memory.new w (left - 1) (past outside events))) }
-    ensures undone { result ≡ Moved.Stays → (values.new ≡ values.old) × (globals.new.items ≡ globals.old.items) × (memory.new ≡ memory.old) }
+    ensures undone { result ≡ Moved.Stays → (values.new ≡ values.old) × (globals.new.items ≡ globals.old.items) × (memory.new ≡ memory.old) × (frames.new ≡ frames.old) }
     ensures below { values.new.below ≡ values.old.below }
+    ensures nested { (below : ℕ) → Nested below frames.old → Nested below frames.new }
 {
     let Some((instr, rest)) = code.split_first() else {
         return Moved::Stays;
@@ -107,7 +61,7 @@ fn advance<'a, H: Host>(
     match plain(values, globals, memory, instr) {
         Tried::Done => Moved::To(rest),
         Tried::Trap(kind) => Moved::Trap(kind),
-        Tried::Untouched => match loop_back::<H>(values, globals, memory, frames, instr, rest) {
+        Tried::Untouched => match control_within::<H>(values, frames, alloc, instr, rest) {
             Some(code) => Moved::To(code),
             None => Moved::Stays,
         },
@@ -120,23 +74,26 @@ fn run_code<'a, H: Host>(
     values: &mut ValueStack,
     globals: &mut Vec<u64>,
     memory: &mut Memory,
-    frames: &Stack<Frame<'a>>,
+    frames: &mut Stack<Frame<'a>>,
+    alloc: Global,
     code: &'a [Instr],
     most: u64,
 ) -> Stretch<'a>
     requires { (program : Program) × (w : H) × (free : ℕ) × (left : ℕ) × (most ≤ left % 1024) ×
-        Sound (λ outside. goes H.meaning program free frames.now code.now values.old (stepping values.old globals.old.items memory.old w left outside)) }
+        Sound (λ outside. goes H.meaning program free frames.old code.now values.old (stepping values.old globals.old.items memory.old w left outside)) }
     ensures leads { (program : Program) (w : H) (free left : ℕ) → most ≤ left % 1024 → Quietly (λ events. (outside : Outside) → Begins outside events →
-        CodeLeads H.meaning program free frames.now
-        (goes H.meaning program free frames.now code.entry.now values.old (stepping values.old globals.old.items memory.old w left outside))
+        CodeLeads H.meaning program free frames.new
+        (goes H.meaning program free frames.old code.entry.now values.old (stepping values.old globals.old.items memory.old w left outside))
         result.trap result.code.now values.new (stepping values.new globals.new.items memory.new w (left - result.steps) (past outside events))) }
     ensures few { result.steps ≤ most }
     ensures below { values.new.below ≡ values.old.below }
+    ensures nested { (below : ℕ) → Nested below frames.old → Nested below frames.new }
 {
     let mut rest = code;
     let mut steps = 0;
     'instructions: while steps < most {
-        match advance::<H>(values, globals, memory, frames, rest) {
+        rest = after_blocks::<H>(frames, rest);
+        match advance::<H>(values, globals, memory, frames, alloc, rest) {
             Moved::To(code) => {
                 rest = code;
                 steps += 1;
@@ -172,14 +129,14 @@ pub(crate) fn run_stretch<'a, H: Host>(
     left: &mut u64,
     last: &mut u64,
 ) -> Option<TrapKind>
-    requires { (program : Program) × (w : H) × Sound (λ outside. going H.meaning program thread.old (state_of thread.old.state w left.old last.old outside)) }
+    requires nested { IsNested thread.old }
+    requires sound { (program : Program) × (w : H) × Sound (λ outside. going H.meaning program thread.old (state_of thread.old.state w left.old last.old outside)) }
     ensures leads { (program : Program) (w : H) → Quietly (λ events. (outside : Outside) → Begins outside events →
         StretchLeads H.meaning program
         (going H.meaning program thread.old (state_of thread.old.state w left.old last.old outside))
         result thread.new w left.new last.new (past outside events)) }
     ensures sinks { left.new ≤ left.old }
-    ensures frames { thread.new.frames ≡ thread.old.frames }
-    ensures below { thread.new.state.values.below ≡ thread.old.state.values.below }
+    ensures nested { IsNested thread.new }
 {
     // Where the instruction executed last took more steps, a look may be due.
     if *last <= *left || *last - *left > 1 {
@@ -190,7 +147,8 @@ pub(crate) fn run_stretch<'a, H: Host>(
         &mut values,
         &mut thread.state.globals,
         &mut thread.state.memory,
-        &thread.frames,
+        &mut thread.frames,
+        alloc,
         thread.code,
         *left % 1024,
     );

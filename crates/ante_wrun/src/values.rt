@@ -151,6 +151,7 @@ impl ValueStack {
     }
 
     /// Leaves the results of a block on the lowest operands.
+    #[inline(always)]
     pub(crate) fn unwind(&mut self, kind: Option<ValueKind>, height: usize)
         requires { height + arity kind ≤ length self.old.stack }
         ensures { self.new ≡ record self.old { stack = unwound kind height self.old.stack } }

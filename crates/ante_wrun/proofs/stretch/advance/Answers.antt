@@ -19,8 +19,8 @@ plain-requires g c =
     let q = c.requires in
     record { ready = ready_next g.H.Host.meaning q.0 q.2 c.args.frames.now q.1 c.args.code.now c.in-Some.instr.now c.in-Some.rest.now c.args.values.now c.args.globals.now.items c.args.memory.now q.3 c.in-Some.ensures.cases.0 q.4 q.5 }
 
-pub loop_back-requires : goal.loop_back-requires
-loop_back-requires g c =
+pub control_within-requires : goal.control_within-requires
+control_within-requires g c =
     let q = c.requires in
     let i = c.in-Some.instr.now in
     let s = next_sound g.H.Host.meaning q.0 q.2 c.args.frames.now q.1 c.args.code.now i c.in-Some.rest.now c.args.values.now c.args.globals.now.items c.args.memory.now q.3 c.in-Some.ensures.cases.0 q.4 q.5 in (
@@ -29,6 +29,7 @@ loop_back-requires g c =
       q.2,
       q.3 - 1,
       s.0,
+      record { values = c.plain.new.values; globals = c.plain.new.globals; memory = c.plain.new.memory },
       still c.args.values.now c.plain.new.values c.args.globals.now.items c.plain.new.globals.items c.args.memory.now c.plain.new.memory
           (untouched (plain_of i) _ _ c.in-Untouched.ensures.effect) c.plain.ensures.below
           (λ v globals memory. NotStuck (acting g.H.Host.meaning q.0 q.2 c.args.frames.now q.1 i c.in-Some.rest.now v (stepping v globals memory q.1 (q.3 - 1) s.0))) s.1,
@@ -52,16 +53,16 @@ returns-in-Trap-clause-leads g c = λ program w free left r.
     (λ o. trap_leads g.H.Host.meaning program free c.args.frames.now w i c.in-Some.rest.now c.args.values.now c.args.globals.now.items c.args.memory.now (left - 1) o
     c.in-Trap.kind (values_in new.values new.globals.items new.memory) (ready_next g.H.Host.meaning c.requires.0 c.requires.2 c.args.frames.now c.requires.1 c.args.code.now i c.in-Some.rest.now c.args.values.now c.args.globals.now.items c.args.memory.now c.requires.3 c.in-Some.ensures.cases.0 c.requires.4 c.requires.5) c.in-Trap.ensures.effect)
 
-pub returns-in-Some-loop_back-clause-leads : goal.returns-in-Some-loop_back-clause-leads
-returns-in-Some-loop_back-clause-leads g c = λ program w free left r.
+pub returns-in-Some-control_within-clause-leads : goal.returns-in-Some-control_within-clause-leads
+returns-in-Some-control_within-clause-leads g c = λ program w free left r.
     let i = c.in-Some.instr.now in
     let new = c.plain.new in
-    let values = c.loop_back.new.values in
+    let values = c.control_within.new.values in
     one_quiet g.H.Host.meaning program free c.args.frames.now w c.args.code.now i c.in-Some.rest.now c.args.values.now c.args.globals.now.items c.args.memory.now left c.in-Some.ensures.cases.0 r
-    (λ x o. x ≡ goes g.H.Host.meaning program free c.args.frames.now c.in-Some-loop_back.code.now values (stepping values new.globals.items new.memory w (left - 1) o))
+    (λ x o. x ≡ goes g.H.Host.meaning program free c.control_within.new.frames c.in-Some-control_within.code.now values (stepping values new.globals.items new.memory w (left - 1) o))
     (λ o.
     still c.args.values.now new.values c.args.globals.now.items new.globals.items c.args.memory.now new.memory
     (untouched (plain_of i) _ _ c.in-Untouched.ensures.effect) c.plain.ensures.below
     (λ v globals memory. acting g.H.Host.meaning program free c.args.frames.now w i c.in-Some.rest.now c.args.values.now (stepping c.args.values.now c.args.globals.now.items c.args.memory.now w (left - 1) o)
     ≡ acting g.H.Host.meaning program free c.args.frames.now w i c.in-Some.rest.now v (stepping v globals memory w (left - 1) o)) refl
-    ∙ c.in-Some-loop_back.ensures.leads program w free (left - 1) o)
+    ∙ c.in-Some-control_within.ensures.leads program w free (left - 1) o (record { values = new.values; globals = new.globals; memory = new.memory }))

@@ -8,7 +8,7 @@ use Rattle.ante_wrun.proofs.stretch.run_stretch.Goals as goal
 
 pub run_code-done-requires : goal.run_code-done-requires
 run_code-done-requires g c =
-    let q = c.requires in
+    let q = c.requires.sound in
     let t = c.args.thread.now in
     let left = c.args.left.now in
     let one : c.args.last.now ≡ suc left = omega (arith, c.if-last-left.false, c.if-last-left-gt1.false) in (

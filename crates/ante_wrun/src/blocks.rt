@@ -1,0 +1,170 @@
+//! Control instructions that stay within their function (section 4.4.5), on its values and open bodies.
+ghost use Rattle.std.specs.Prelude.{◌≡◌, ℕ, suc, ◌+◌, ◌<◌, ◌==◌, if◌then◌else◌, List, Option, None, Some, length, drop, slice_get};
+ghost use Rattle.std.specs.Option.{IfSome};
+ghost use Rattle.ante_wtree.specs.Expressions.{put, expression_of};
+ghost use Rattle.ante_wrun.specs.Meaning.{Outside, Program, Branch, acts, call};
+ghost use Rattle.ante_wrun.specs.Machine.{under, goes, Reaches, Nested};
+ghost use Rattle.ante_wrun.specs.Runs.{NotStuck};
+ghost use Rattle.ante_wrun.specs.Stretches.{stepping, SameFrom, IsInner, BranchLeads};
+
+use crate::control::chosen;
+use crate::data::{Data, low};
+use crate::thread::Frame;
+use crate::values::ValueStack;
+use ante_stack::Stack;
+use ante_wmem::Host;
+use ante_wtree::{Instr, Shape, shape_of};
+use std::alloc::Global;
+
+/// The code that is next after the blocks and loops that have ended.
+#[inline(always)]
+pub(crate) fn after_blocks<'a, H: Host>(
+    frames: &mut Stack<Frame<'a>>,
+    code: &'a [Instr],
+) -> &'a [Instr]
+    ensures same { SameFrom H.meaning frames.old code.entry.now frames.new result.now }
+    ensures nested { (below : ℕ) → Nested below frames.old → Nested below frames.new }
+{
+    let mut rest = code;
+    'ended: while rest.is_empty() {
+        let Some(frame) = frames.top() else {
+            return rest;
+        };
+        match frame {
+            Frame::Block { rest: after, .. } => {
+                frames.discard();
+                rest = after;
+            }
+            Frame::Loop { rest: after, .. } => {
+                frames.discard();
+                rest = after;
+            }
+            Frame::Call { .. } => return rest,
+        }
+    }
+    rest
+}
+
+/// Takes the innermost frames away.
+#[inline(always)]
+fn discard(frames: &mut Stack<Frame<'_>>, count: usize)
+    ensures { frames.new ≡ drop count frames.old }
+{
+    for _ in 0..count {
+        frames.discard();
+    }
+}
+
+/// The block or loop whose label has this depth; none where the label is the function's own.
+#[inline(always)]
+fn inner_label<'a>(frames: &Stack<Frame<'a>>, depth: u32) -> Option<Frame<'a>>
+    requires { (count : ℕ) × Reaches frames.now depth count }
+    ensures { IfSome result (λ frame. (slice_get frames.now depth ≡ Some frame) × IsInner frame) }
+{
+    let Some(frame) = frames.at(depth as usize) else {
+        unreachable!()
+    };
+    match frame {
+        Frame::Block { .. } | Frame::Loop { .. } => Some(frame),
+        Frame::Call { .. } => None,
+    }
+}
+
+/// Branches to a block's or a loop's label.
+#[inline(always)]
+fn land<'a, H: Host>(
+    values: &mut ValueStack,
+    frames: &mut Stack<Frame<'a>>,
+    depth: u32,
+    frame: Frame<'a>,
+) -> &'a [Instr]
+    requires label { slice_get frames.old depth ≡ Some frame }
+    requires inner { IsInner frame }
+    requires reaches { Reaches frames.old depth (length values.old.stack) }
+    ensures leads { (program : Program) (w : H) (free left : ℕ) (outside : Outside) (d : Data) →
+        under H.meaning program free values.old.below frames.old (Branch depth (stepping values.old d.globals.items d.memory w left outside))
+        ≡ goes H.meaning program free frames.new result.now values.new (stepping values.new d.globals.items d.memory w left outside) }
+    ensures below { values.new.below ≡ values.old.below }
+    ensures nested { (below : ℕ) → Nested below frames.old → Nested below frames.new }
+{
+    match frame {
+        Frame::Block { kind, height, rest } => {
+            values.unwind(kind, height);
+            discard(frames, depth as usize + 1);
+            rest
+        }
+        Frame::Loop { height, body, .. } => {
+            values.keep(height);
+            discard(frames, depth as usize);
+            body
+        }
+        Frame::Call { .. } => unreachable!(),
+    }
+}
+
+/// Executes an instruction that begins a block or branches inside its function: the code that is next. None, with nothing
+/// done, for the others, and where memory is wanted.
+#[inline(always)]
+pub(crate) fn control_within<'a, H: Host>(
+    values: &mut ValueStack,
+    frames: &mut Stack<Frame<'a>>,
+    alloc: Global,
+    instr: &'a Instr,
+    rest: &'a [Instr],
+) -> Option<&'a [Instr]>
+    requires { (program : Program) × (w : H) × (free : ℕ) × (left : ℕ) × (outside : Outside) × (d : Data) ×
+        NotStuck (under H.meaning program free values.old.below frames.old (acts program (call H.meaning program free) (put instr.now (expression_of rest.now)) (stepping values.old d.globals.items d.memory w left outside))) }
+    ensures leads { (program : Program) (w : H) (free left : ℕ) (outside : Outside) (d : Data) →
+        BranchLeads H.meaning program free frames.new
+        (under H.meaning program free values.old.below frames.old (acts program (call H.meaning program free) (put instr.entry.now (expression_of rest.entry.now)) (stepping values.old d.globals.items d.memory w left outside)))
+        result values.new (stepping values.new d.globals.items d.memory w left outside) }
+    ensures undone { result ≡ None → (values.new ≡ values.old) × (frames.new ≡ frames.old) }
+    ensures below { values.new.below ≡ values.old.below }
+    ensures nested { (below : ℕ) → Nested below frames.old → Nested below frames.new }
+{
+    match shape_of(instr) {
+        Shape::Block(kind, body) => {
+            let height = values.height();
+            match frames.push(alloc, Frame::Block { kind, height, rest }) {
+                Ok(()) => Some(body),
+                Err(_) => None,
+            }
+        }
+        Shape::Loop(_, body) => {
+            let height = values.height();
+            match frames.push(alloc, Frame::Loop { height, body, rest }) {
+                Ok(()) => Some(body),
+                Err(_) => None,
+            }
+        }
+        Shape::If(kind, one, two) => {
+            let height = values.height() - 1;
+            match frames.push(alloc, Frame::Block { kind, height, rest }) {
+                Ok(()) => {
+                    let test = low(values.pop());
+                    Some(chosen(test, one, two))
+                }
+                Err(_) => None,
+            }
+        }
+        Shape::Br(depth) => {
+            let frame = inner_label(frames, depth)?;
+            Some(land::<H>(values, frames, depth, frame))
+        }
+        Shape::BrIf(depth) => {
+            if low(values.top()) == 0 {
+                let _ = values.pop();
+                return Some(rest);
+            }
+            let frame = inner_label(frames, depth)?;
+            let _ = values.pop();
+            Some(land::<H>(values, frames, depth, frame))
+        }
+        Shape::Plain(_)
+        | Shape::BrTable(..)
+        | Shape::Return
+        | Shape::Call(_)
+        | Shape::CallIndirect(_)
+        | Shape::MemoryGrow => None,
+    }
+}
