@@ -13,9 +13,8 @@ use Rattle.ante_wrun.specs.declared.thread.Frame.TheVariants as frame
 use Rattle.ante_wrun.specs.Meaning.{Outside, Program, State, Outcome, Normal, Branch, arity, keep, unwound, only_if, and_then, jump_unless, taking, on_stack, acts, does, call}
 use Rattle.ante_wrun.specs.Effects.{low, top, popped}
 use Rattle.ante_wrun.specs.Frames.{FrameValues}
-use Rattle.ante_wrun.specs.Machine.{under, goes, Reaches, Nested}
+use Rattle.ante_wrun.specs.Machine.{state_of, under, goes, Reaches, Nested}
 use Rattle.ante_wrun.specs.Runs.{NotStuck}
-use Rattle.ante_wrun.specs.Stretches.{stepping}
 use Rattle.ante_wrun.proofs.Falls.{HostFalls}
 use Rattle.ante_wrun.proofs.Bodies.{land_Loop}
 use Rattle.ante_wrun.proofs.Rules.{has_one, inner, reaches, BrIf_is}
@@ -64,12 +63,12 @@ module _ {W R : Type 0} (host : HostMeaning W R) (program : Program) where
   passes (suc n) free below (frame.Loop height body rest ∷ frames) count s r = passes n free below frames count s r
   passes (suc n) free below (frame.Call kind base locals above rest ∷ frames) count s r = absurd r
 
-  module _ (w : W) (free left : ℕ) (o : Outside) (d : Data) (depth : ℕ) (frames new : List Frame) (v v' : FrameValues) (reaches : Reaches frames depth (length v.stack)) where
+  module _ (w : W) (free left last : ℕ) (o : Outside) (d : Data) (depth : ℕ) (frames new : List Frame) (v v' : FrameValues) (reaches : Reaches frames depth (length v.stack)) where
     abbrev here : State W
-    here = stepping v d.globals.items d.memory w left o
+    here = state_of (record d { values = v }) w left last o
 
     abbrev on : FrameValues → State W
-    on x = stepping x d.globals.items d.memory w left o
+    on x = state_of (record d { values = x }) w left last o
 
     pub land_at_block : (kind : Option ValueKind) (height : ℕ) (rest : Bor (List Instr)) → slice_get frames depth ≡ Some (frame.Block kind height rest) →
         v' ≡ record { below = v.below; locals = v.locals; stack = unwound kind height v.stack } → new ≡ drop (depth + 1) frames →
@@ -91,14 +90,14 @@ module _ {W R : Type 0} (host : HostMeaning W R) (program : Program) where
         let front = in_front depth frames (frame.Loop height body rest) e in
         let le : height ≤ length v.stack = subst (λ fs. Reaches fs 0 (length v.stack)) front (reached depth frames (length v.stack) reaches) in
         passes depth free v.below frames (length v.stack) here reaches
-        ∙ land_Loop host program w left (suc left) o falls free 0 (drop depth frames) (drop (depth + 1) frames) (record d { values = v }) height body rest v' front refl le k
+        ∙ land_Loop host program w left last o falls free 0 (drop depth frames) (drop (depth + 1) frames) (record d { values = v }) height body rest v' front refl le k
         ∙ ap (λ fs. goes host program free fs body.now v' (on v')) (sym n)
 
   -- ---- a branch that is the next instruction
 
-  module _ (w : W) (free left : ℕ) (o : Outside) (d : Data) (frames : List Frame) (v : FrameValues) (x : Expression) (rest : Expression) where
+  module _ (w : W) (free left last : ℕ) (o : Outside) (d : Data) (frames : List Frame) (v : FrameValues) (x : Expression) (rest : Expression) where
     abbrev state : State W
-    state = stepping v d.globals.items d.memory w left o
+    state = state_of (record d { values = v }) w left last o
 
     abbrev outcome : Outcome W R
     outcome = under host program free v.below frames (acts program (call host program free) x state)
@@ -116,11 +115,11 @@ module _ {W R : Type 0} (host : HostMeaning W R) (program : Program) where
         ∙ ap (under host program free v.below frames) (BrIf_is program (call host program free) state lt n rest)
 
     pub goes_on : (n : ℕ) (v' : FrameValues) → x ≡ BrIf n rest → 0 < length v.stack → (low (top v.stack) == 0) ≡ true → v' ≡ record { below = v.below; locals = v.locals; stack = popped v.stack } →
-        outcome ≡ under host program free v'.below frames (does program (call host program free) rest (stepping v' d.globals.items d.memory w left o))
+        outcome ≡ under host program free v'.below frames (does program (call host program free) rest (state_of (record d { values = v' }) w left last o))
     goes_on n v' e lt z k =
         as_branch n e lt
         ∙ ap (λ b. under host program free v.below frames (and_then (jump_unless b n (on_stack state (popped v.stack))) (does program (call host program free) rest))) z
-        ∙ ap (λ y. under host program free y.below frames (does program (call host program free) rest (stepping y d.globals.items d.memory w left o))) (sym k)
+        ∙ ap (λ y. under host program free y.below frames (does program (call host program free) rest (state_of (record d { values = y }) w left last o))) (sym k)
 
     pub taken : (n : ℕ) → x ≡ BrIf n rest → 0 < length v.stack → (low (top v.stack) == 0) ≡ false → outcome ≡ under host program free v.below frames (Branch n (on_stack state (popped v.stack)))
     taken n e lt z =

@@ -3,11 +3,10 @@ ghost use Rattle.std.specs.Prelude.{◌≡◌, ℕ, suc, ◌+◌, ◌<◌, ◌==
 ghost use Rattle.std.specs.Option.{IfSome};
 ghost use Rattle.ante_wtree.specs.Expressions.{put, expression_of};
 ghost use Rattle.ante_wrun.specs.Meaning.{Outside, Program, Branch, acts, call};
-ghost use Rattle.ante_wrun.specs.Machine.{under, goes, Reaches, Nested};
+ghost use Rattle.ante_wrun.specs.Machine.{state_of, under, goes, Reaches, Nested};
 ghost use Rattle.ante_wrun.specs.Runs.{NotStuck};
-ghost use Rattle.ante_wrun.specs.Stretches.{stepping, SameFrom, IsInner, BranchLeads};
+ghost use Rattle.ante_wrun.specs.Stretches.{SameFrom, IsInner, BranchLeads};
 
-use crate::control::chosen;
 use crate::data::{Data, low};
 use crate::thread::Frame;
 use crate::values::ValueStack;
@@ -81,9 +80,9 @@ fn land<'a, H: Host>(
     requires label { slice_get frames.old depth ≡ Some frame }
     requires inner { IsInner frame }
     requires reaches { Reaches frames.old depth (length values.old.stack) }
-    ensures leads { (program : Program) (w : H) (free left : ℕ) (outside : Outside) (d : Data) →
-        under H.meaning program free values.old.below frames.old (Branch depth (stepping values.old d.globals.items d.memory w left outside))
-        ≡ goes H.meaning program free frames.new result.now values.new (stepping values.new d.globals.items d.memory w left outside) }
+    ensures leads { (program : Program) (w : H) (free left last : ℕ) (outside : Outside) (d : Data) →
+        under H.meaning program free values.old.below frames.old (Branch depth (state_of (record d { values = values.old }) w left last outside))
+        ≡ goes H.meaning program free frames.new result.now values.new (state_of (record d { values = values.new }) w left last outside) }
     ensures below { values.new.below ≡ values.old.below }
     ensures nested { (below : ℕ) → Nested below frames.old → Nested below frames.new }
 {
@@ -102,6 +101,12 @@ fn land<'a, H: Host>(
     }
 }
 
+fn chosen<'a>(test: u32, one: &'a [Instr], two: &'a [Instr]) -> &'a [Instr]
+    ensures { result ≡ (if test == 0 then two.entry else one.entry) }
+{
+    if test == 0 { two } else { one }
+}
+
 /// Executes an instruction that begins a block or branches inside its function: the code that is next. None, with nothing
 /// done, for the others, and where memory is wanted.
 #[inline(always)]
@@ -112,12 +117,12 @@ pub(crate) fn control_within<'a, H: Host>(
     instr: &'a Instr,
     rest: &'a [Instr],
 ) -> Option<&'a [Instr]>
-    requires { (program : Program) × (w : H) × (free : ℕ) × (left : ℕ) × (outside : Outside) × (d : Data) ×
-        NotStuck (under H.meaning program free values.old.below frames.old (acts program (call H.meaning program free) (put instr.now (expression_of rest.now)) (stepping values.old d.globals.items d.memory w left outside))) }
-    ensures leads { (program : Program) (w : H) (free left : ℕ) (outside : Outside) (d : Data) →
+    requires { (program : Program) × (w : H) × (free : ℕ) × (left : ℕ) × (last : ℕ) × (outside : Outside) × (d : Data) ×
+        NotStuck (under H.meaning program free values.old.below frames.old (acts program (call H.meaning program free) (put instr.now (expression_of rest.now)) (state_of (record d { values = values.old }) w left last outside))) }
+    ensures leads { (program : Program) (w : H) (free left last : ℕ) (outside : Outside) (d : Data) →
         BranchLeads H.meaning program free frames.new
-        (under H.meaning program free values.old.below frames.old (acts program (call H.meaning program free) (put instr.entry.now (expression_of rest.entry.now)) (stepping values.old d.globals.items d.memory w left outside)))
-        result values.new (stepping values.new d.globals.items d.memory w left outside) }
+        (under H.meaning program free values.old.below frames.old (acts program (call H.meaning program free) (put instr.entry.now (expression_of rest.entry.now)) (state_of (record d { values = values.old }) w left last outside)))
+        result values.new (state_of (record d { values = values.new }) w left last outside) }
     ensures undone { result ≡ None → (values.new ≡ values.old) × (frames.new ≡ frames.old) }
     ensures below { values.new.below ≡ values.old.below }
     ensures nested { (below : ℕ) → Nested below frames.old → Nested below frames.new }

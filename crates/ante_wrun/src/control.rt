@@ -7,6 +7,7 @@ ghost use Rattle.ante_wrun.specs.Machine.{state_of, whole, going, after, IsNeste
 ghost use Rattle.ante_wrun.specs.Control.{instance_of, program_of, own_at, Leads, NotHostCall, GivenAt, Takes, Leaves};
 ghost use Rattle.ante_wrun.specs.Runs.{NotStuck};
 
+use crate::blocks::control_within;
 use crate::data::low;
 use crate::ends::TrapKind;
 use crate::plain::{Tried, plain_with_room};
@@ -245,10 +246,30 @@ fn label(labels: &[u32], last: u32, at: u32) -> u32
     if at < labels.len() { labels[at] } else { last }
 }
 
-pub(crate) fn chosen<'a>(test: u32, one: &'a [Instr], two: &'a [Instr]) -> &'a [Instr]
-    ensures { result ≡ (if test == 0 then two.entry else one.entry) }
+/// Begins a block, a loop or the chosen part of an `if`. Another instruction isn't done here.
+#[inline(never)]
+fn begin<'a, H: Host>(
+    thread: &mut Thread<'a>,
+    alloc: Global,
+    instr: &'a Instr,
+) -> Result<Next<'a>, AllocError>
+    requires sound { (program : Program) × (w : H) × (left : ℕ) × (last : ℕ) × (outside : Outside) ×
+        NotStuck (whole H.meaning program thread.old (acts program (call H.meaning program thread.old.free) (put instr.now (expression_of thread.old.code.now)) (state_of thread.old.state w left last outside))) }
+    requires nested { IsNested thread.old }
+    ensures nested { IfOk result (λ next. IsNested thread.new) }
+    ensures leads { IfOk result (λ next. (program : Program) (w : H) (left last : ℕ) (outside : Outside) →
+        Leads H.meaning program
+        (whole H.meaning program thread.old (acts program (call H.meaning program thread.old.free) (put instr.entry.now (expression_of thread.old.code.now)) (state_of thread.old.state w left last outside)))
+        next thread.new w left last outside) }
 {
-    if test == 0 { two } else { one }
+    let values = &mut thread.state.values;
+    match control_within::<H>(values, &mut thread.frames, alloc, instr, thread.code) {
+        Some(code) => {
+            thread.code = code;
+            Ok(Next::Go)
+        }
+        None => Err(AllocError),
+    }
 }
 
 /// Executes an instruction whose step is paid; an `Err` is want of memory.
@@ -277,34 +298,7 @@ pub(crate) fn act<'a, H: Host>(
             Tried::Trap(kind) => Ok(Next::Trap(kind)),
             Tried::Untouched => Err(AllocError),
         },
-        Shape::Block(kind, body) => {
-            let height = thread.state.values.height();
-            let rest = thread.code;
-            thread
-                .frames
-                .push(alloc, Frame::Block { kind, height, rest })?;
-            thread.code = body;
-            Ok(Next::Go)
-        }
-        Shape::Loop(_, body) => {
-            let height = thread.state.values.height();
-            let rest = thread.code;
-            thread
-                .frames
-                .push(alloc, Frame::Loop { height, body, rest })?;
-            thread.code = body;
-            Ok(Next::Go)
-        }
-        Shape::If(kind, one, two) => {
-            let test = low(thread.state.values.pop());
-            let height = thread.state.values.height();
-            let rest = thread.code;
-            thread
-                .frames
-                .push(alloc, Frame::Block { kind, height, rest })?;
-            thread.code = chosen(test, one, two);
-            Ok(Next::Go)
-        }
+        Shape::Block(..) | Shape::Loop(..) | Shape::If(..) => begin::<H>(thread, alloc, instr),
         Shape::Br(depth) => {
             branch::<H>(thread, depth);
             Ok(Next::Go)

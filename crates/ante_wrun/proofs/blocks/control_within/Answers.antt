@@ -1,12 +1,11 @@
-use Rattle.std.proofs.Common.{◌≡◌, ◌∷◌, ◌-◌, suc, false, length, refl, sym, ap, subst, ◌∙◌, arith}
+use Rattle.std.proofs.Common.{◌≡◌, ◌∷◌, ◌-◌, false, length, refl, sym, ap, subst, ◌∙◌, arith}
 use Rattle.std.specs.Prelude.{◌==◌}
 use Rattle.std.proofs.lemmas.Bool.{eqb-true}
 use Rattle.ante_wtree.specs.Expressions.{put, expression_of}
 use Rattle.ante_wrun.specs.declared.thread.Frame.TheVariants as frame
 use Rattle.ante_wrun.specs.Effects.{low, top, popped}
 use Rattle.ante_wrun.specs.Meaning.{Branch, acts, does, call}
-use Rattle.ante_wrun.specs.Machine.{under, goes, Reaches}
-use Rattle.ante_wrun.specs.Stretches.{stepping}
+use Rattle.ante_wrun.specs.Machine.{state_of, under, goes, Reaches}
 use Rattle.ante_wrun.proofs.Bodies.{again}
 use Rattle.ante_wrun.proofs.Calls.{conditional}
 use Rattle.ante_wrun.proofs.Rules.{If_is}
@@ -17,48 +16,48 @@ pub overflow_sub-height : goal.overflow_sub-height
 overflow_sub-height g c =
     let q = c.requires in
     let rest = expression_of c.args.rest.now in
-    let lt = takes g.H.Host.meaning q.0 q.1 q.2 q.3 q.4 q.5 c.args.frames.now c.args.values.now (put c.args.instr.now rest) rest _ _ (c.in-If.ensures rest) refl q.6 in
+    let lt = takes g.H.Host.meaning q.0 q.1 q.2 q.3 q.4 q.5 q.6 c.args.frames.now c.args.values.now (put c.args.instr.now rest) rest _ _ (c.in-If.ensures rest) refl q.7 in
     omega (arith, lt, c.height-height-in-If.ensures)
 
 pub pop-requires : goal.pop-requires
 pop-requires g c =
     let q = c.requires in
     let rest = expression_of c.args.rest.now in
-    takes g.H.Host.meaning q.0 q.1 q.2 q.3 q.4 q.5 c.args.frames.now c.args.values.now (put c.args.instr.now rest) rest _ _ (c.in-If.ensures rest) refl q.6
+    takes g.H.Host.meaning q.0 q.1 q.2 q.3 q.4 q.5 q.6 c.args.frames.now c.args.values.now (put c.args.instr.now rest) rest _ _ (c.in-If.ensures rest) refl q.7
 
 pub inner_label-requires : goal.inner_label-requires
 inner_label-requires g c =
     let q = c.requires in
     let rest = expression_of c.args.rest.now in
-    (length c.args.values.now.stack, reaches_by g.H.Host.meaning q.0 q.1 q.2 q.3 q.4 q.5 c.args.frames.now c.args.values.now (put c.args.instr.now rest) rest c.in-Br.depth (c.in-Br.ensures rest) q.6)
+    (length c.args.values.now.stack, reaches_by g.H.Host.meaning q.0 q.1 q.2 q.3 q.4 q.5 q.6 c.args.frames.now c.args.values.now (put c.args.instr.now rest) rest c.in-Br.depth (c.in-Br.ensures rest) q.7)
 
 pub land-requires-clause-reaches : goal.land-requires-clause-reaches
 land-requires-clause-reaches g c =
     let q = c.requires in
     let rest = expression_of c.args.rest.now in
-    reaches_by g.H.Host.meaning q.0 q.1 q.2 q.3 q.4 q.5 c.args.frames.now c.args.values.now (put c.args.instr.now rest) rest c.in-Br.depth (c.in-Br.ensures rest) q.6
+    reaches_by g.H.Host.meaning q.0 q.1 q.2 q.3 q.4 q.5 q.6 c.args.frames.now c.args.values.now (put c.args.instr.now rest) rest c.in-Br.depth (c.in-Br.ensures rest) q.7
 
 pub top-requires : goal.top-requires
 top-requires g c =
     let q = c.requires in
     let rest = expression_of c.args.rest.now in
-    takes g.H.Host.meaning q.0 q.1 q.2 q.3 q.4 q.5 c.args.frames.now c.args.values.now (put c.args.instr.now rest) rest _ _ (c.in-BrIf.ensures rest) refl q.6
+    takes g.H.Host.meaning q.0 q.1 q.2 q.3 q.4 q.5 q.6 c.args.frames.now c.args.values.now (put c.args.instr.now rest) rest _ _ (c.in-BrIf.ensures rest) refl q.7
 
 pub pop-requires-then-low-eq0 : goal.pop-requires-then-low-eq0
 pop-requires-then-low-eq0 g c =
     let q = c.requires in
     let rest = expression_of c.args.rest.now in
-    takes g.H.Host.meaning q.0 q.1 q.2 q.3 q.4 q.5 c.args.frames.now c.args.values.now (put c.args.instr.now rest) rest _ _ (c.in-BrIf.ensures rest) refl q.6
+    takes g.H.Host.meaning q.0 q.1 q.2 q.3 q.4 q.5 q.6 c.args.frames.now c.args.values.now (put c.args.instr.now rest) rest _ _ (c.in-BrIf.ensures rest) refl q.7
 
 pub returns-then-low-eq0-clause-leads : goal.returns-then-low-eq0-clause-leads
-returns-then-low-eq0-clause-leads g c = λ program w free left o d.
+returns-then-low-eq0-clause-leads g c = λ program w free left last o d.
     let q = c.requires in
     let rest = expression_of c.args.rest.now in
     let v = c.args.values.now in
     let x = put c.args.instr.now rest in
-    let lt = takes g.H.Host.meaning q.0 q.1 q.2 q.3 q.4 q.5 c.args.frames.now v x rest _ _ (c.in-BrIf.ensures rest) refl q.6 in
+    let lt = takes g.H.Host.meaning q.0 q.1 q.2 q.3 q.4 q.5 q.6 c.args.frames.now v x rest _ _ (c.in-BrIf.ensures rest) refl q.7 in
     let n : low (top v.stack) ≡ c.low.result = sym (c.low.ensures ∙ ap low c.top.ensures) in
-    goes_on g.H.Host.meaning program w free left o d c.args.frames.now v x rest c.in-BrIf.depth c.pop-then-low-eq0.new.self (c.in-BrIf.ensures rest) lt (ap (λ k. k == 0) (n ∙ c.if-low-eq0.true)) c.pop-then-low-eq0.ensures.rest
+    goes_on g.H.Host.meaning program w free left last o d c.args.frames.now v x rest c.in-BrIf.depth c.pop-then-low-eq0.new.self (c.in-BrIf.ensures rest) lt (ap (λ k. k == 0) (n ∙ c.if-low-eq0.true)) c.pop-then-low-eq0.ensures.rest
 
 pub inner_label-requires-in-BrIf : goal.inner_label-requires-in-BrIf
 inner_label-requires-in-BrIf g c =
@@ -66,16 +65,16 @@ inner_label-requires-in-BrIf g c =
     let rest = expression_of c.args.rest.now in
     let v = c.args.values.now in
     let x = put c.args.instr.now rest in
-    let lt = takes g.H.Host.meaning q.0 q.1 q.2 q.3 q.4 q.5 c.args.frames.now v x rest _ _ (c.in-BrIf.ensures rest) refl q.6 in
+    let lt = takes g.H.Host.meaning q.0 q.1 q.2 q.3 q.4 q.5 q.6 c.args.frames.now v x rest _ _ (c.in-BrIf.ensures rest) refl q.7 in
     let n : low (top v.stack) ≡ c.low.result = sym (c.low.ensures ∙ ap low c.top.ensures) in
     let z : (low (top v.stack) == 0) ≡ false = ap (λ k. k == 0) n ∙ grind (arith, eqb-true, c.if-low-eq0.false) in
-    (length (popped v.stack), reaches_if g.H.Host.meaning q.0 q.1 q.2 q.3 q.4 q.5 c.args.frames.now v x rest c.in-BrIf.depth (c.in-BrIf.ensures rest) lt z q.6)
+    (length (popped v.stack), reaches_if g.H.Host.meaning q.0 q.1 q.2 q.3 q.4 q.5 q.6 c.args.frames.now v x rest c.in-BrIf.depth (c.in-BrIf.ensures rest) lt z q.7)
 
 pub pop-requires-in-BrIf : goal.pop-requires-in-BrIf
 pop-requires-in-BrIf g c =
     let q = c.requires in
     let rest = expression_of c.args.rest.now in
-    takes g.H.Host.meaning q.0 q.1 q.2 q.3 q.4 q.5 c.args.frames.now c.args.values.now (put c.args.instr.now rest) rest _ _ (c.in-BrIf.ensures rest) refl q.6
+    takes g.H.Host.meaning q.0 q.1 q.2 q.3 q.4 q.5 q.6 c.args.frames.now c.args.values.now (put c.args.instr.now rest) rest _ _ (c.in-BrIf.ensures rest) refl q.7
 
 pub land-requires-in-BrIf-clause-reaches : goal.land-requires-in-BrIf-clause-reaches
 land-requires-in-BrIf-clause-reaches g c =
@@ -83,49 +82,49 @@ land-requires-in-BrIf-clause-reaches g c =
     let rest = expression_of c.args.rest.now in
     let v = c.args.values.now in
     let x = put c.args.instr.now rest in
-    let lt = takes g.H.Host.meaning q.0 q.1 q.2 q.3 q.4 q.5 c.args.frames.now v x rest _ _ (c.in-BrIf.ensures rest) refl q.6 in
+    let lt = takes g.H.Host.meaning q.0 q.1 q.2 q.3 q.4 q.5 q.6 c.args.frames.now v x rest _ _ (c.in-BrIf.ensures rest) refl q.7 in
     let n : low (top v.stack) ≡ c.low.result = sym (c.low.ensures ∙ ap low c.top.ensures) in
     let z : (low (top v.stack) == 0) ≡ false = ap (λ k. k == 0) n ∙ grind (arith, eqb-true, c.if-low-eq0.false) in
     subst (λ y. Reaches c.args.frames.now c.in-BrIf.depth (length y.stack)) (sym c.pop-in-BrIf.ensures.rest)
-    (reaches_if g.H.Host.meaning q.0 q.1 q.2 q.3 q.4 q.5 c.args.frames.now v x rest c.in-BrIf.depth (c.in-BrIf.ensures rest) lt z q.6)
+    (reaches_if g.H.Host.meaning q.0 q.1 q.2 q.3 q.4 q.5 q.6 c.args.frames.now v x rest c.in-BrIf.depth (c.in-BrIf.ensures rest) lt z q.7)
 
 pub returns-in_ok-frame-in-BrIf-clause-leads : goal.returns-in_ok-frame-in-BrIf-clause-leads
-returns-in_ok-frame-in-BrIf-clause-leads g c = λ program w free left o d.
+returns-in_ok-frame-in-BrIf-clause-leads g c = λ program w free left last o d.
     let q = c.requires in
     let rest = expression_of c.args.rest.now in
     let v = c.args.values.now in
     let x = put c.args.instr.now rest in
-    let lt = takes g.H.Host.meaning q.0 q.1 q.2 q.3 q.4 q.5 c.args.frames.now v x rest _ _ (c.in-BrIf.ensures rest) refl q.6 in
+    let lt = takes g.H.Host.meaning q.0 q.1 q.2 q.3 q.4 q.5 q.6 c.args.frames.now v x rest _ _ (c.in-BrIf.ensures rest) refl q.7 in
     let n : low (top v.stack) ≡ c.low.result = sym (c.low.ensures ∙ ap low c.top.ensures) in
     let z : (low (top v.stack) == 0) ≡ false = ap (λ k. k == 0) n ∙ grind (arith, eqb-true, c.if-low-eq0.false) in
-    taken g.H.Host.meaning program w free left o d c.args.frames.now v x rest c.in-BrIf.depth (c.in-BrIf.ensures rest) lt z
-    ∙ ap (λ y. under g.H.Host.meaning program free y.below c.args.frames.now (Branch c.in-BrIf.depth (stepping y d.globals.items d.memory w left o))) (sym c.pop-in-BrIf.ensures.rest)
-    ∙ c.land-in-BrIf.ensures.leads program w free left o d
+    taken g.H.Host.meaning program w free left last o d c.args.frames.now v x rest c.in-BrIf.depth (c.in-BrIf.ensures rest) lt z
+    ∙ ap (λ y. under g.H.Host.meaning program free y.below c.args.frames.now (Branch c.in-BrIf.depth (state_of (record d { values = y }) w left last o))) (sym c.pop-in-BrIf.ensures.rest)
+    ∙ c.land-in-BrIf.ensures.leads program w free left last o d
 
 -- a loop
 pub returns-in-Ok-push-clause-leads : goal.returns-in-Ok-push-clause-leads
-returns-in-Ok-push-clause-leads g c = λ program w free left o d.
+returns-in-Ok-push-clause-leads g c = λ program w free left last o d.
     let v = c.args.values.now in
     let fs = c.args.frames.now in
-    let s = stepping v d.globals.items d.memory w left o in
+    let s = state_of (record d { values = v }) w left last o in
     let body = c.in-Loop.body in
     ap (λ x. under g.H.Host.meaning program free v.below fs (acts program (call g.H.Host.meaning program free) x s)) (c.in-Loop.ensures (expression_of c.args.rest.now))
-    ∙ again g.H.Host.meaning program w left (suc left) o g.met.H.Host.falls free v.below fs (length v.stack) body c.args.rest s
+    ∙ again g.H.Host.meaning program w left last o g.met.H.Host.falls free v.below fs (length v.stack) body c.args.rest s
     ∙ ap (λ h. under g.H.Host.meaning program free v.below (frame.Loop h body c.args.rest ∷ fs) (does program (call g.H.Host.meaning program free) (expression_of body.now) s)) (sym c.height-height-in-Loop.ensures)
     ∙ ap (λ x. goes g.H.Host.meaning program free x body.now v s) (sym c.in-Ok-push.ensures.ok)
 
 -- an `if`
 pub returns-in-Ok-push-2-clause-leads : goal.returns-in-Ok-push-2-clause-leads
-returns-in-Ok-push-2-clause-leads g c = λ program w free left o d.
+returns-in-Ok-push-2-clause-leads g c = λ program w free left last o d.
     let q = c.requires in
     let rest = expression_of c.args.rest.now in
     let v = c.args.values.now in
     let fs = c.args.frames.now in
-    let s = stepping v d.globals.items d.memory w left o in
-    let lt = takes g.H.Host.meaning q.0 q.1 q.2 q.3 q.4 q.5 fs v (put c.args.instr.now rest) rest _ _ (c.in-If.ensures rest) refl q.6 in
+    let s = state_of (record d { values = v }) w left last o in
+    let lt = takes g.H.Host.meaning q.0 q.1 q.2 q.3 q.4 q.5 q.6 fs v (put c.args.instr.now rest) rest _ _ (c.in-If.ensures rest) refl q.7 in
     let n : low (top v.stack) ≡ c.low-test.result = sym (c.low-test.ensures ∙ ap low c.pop.ensures.value) in
     let height : c.height-height-in-If.result - 1 ≡ length c.pop.new.self.stack = ap (λ k. k - 1) c.height-height-in-If.ensures ∙ length_popped v.stack lt ∙ ap (λ y. length y.stack) (sym c.pop.ensures.rest) in
     ap (λ x. under g.H.Host.meaning program free v.below fs (acts program (call g.H.Host.meaning program free) x s)) (c.in-If.ensures rest)
     ∙ ap (under g.H.Host.meaning program free v.below fs) (If_is program (call g.H.Host.meaning program free) s lt c.in-If.kind (expression_of c.in-If.one.now) (expression_of c.in-If.two.now) rest)
-    ∙ conditional g.H.Host.meaning program w left (suc left) o free fs c.push-in-If.new.self (record d { values = v }) c.in-If.kind (c.height-height-in-If.result - 1) c.args.rest c.in-If.one c.in-If.two c.chosen.result
+    ∙ conditional g.H.Host.meaning program w left last o free fs c.push-in-If.new.self (record d { values = v }) c.in-If.kind (c.height-height-in-If.result - 1) c.args.rest c.in-If.one c.in-If.two c.chosen.result
     (low (top v.stack) == 0) (c.low-test.result == 0) c.pop.new.self (ap (λ k. k == 0) n) c.chosen.ensures c.pop.ensures.rest height c.in-Ok-push-2.ensures.ok

@@ -48,40 +48,8 @@ returns-in-Trap-clause-leads g c = λ w last outside.
       refl,
     )
 
-pub returns-in_ok-push-in-Block-clause-leads : goal.returns-in_ok-push-in-Block-clause-leads
-returns-in_ok-push-in-Block-clause-leads g c = λ w last outside.
-    let P = program_of c.args.functions.now in
-    let t = c.args.thread.now in
-    let s = state_of t.state w c.args.left.now last outside in
-    let m = under g.H.Host.meaning P t.free t.state.values.below in
-    let e = ap (λ x. whole g.H.Host.meaning P t (acts P (call g.H.Host.meaning P t.free) x s)) (c.in-Block.ensures (expression_of t.code.now)) in
-    e ∙ ap (λ h. m (frame.Block c.in-Block.kind h t.code ∷ t.frames) (does P (call g.H.Host.meaning P t.free) (expression_of c.in-Block.body.now) s)) (sym c.height-height.ensures)
-    ∙ ap (λ fs. m fs (does P (call g.H.Host.meaning P t.free) (expression_of c.in-Block.body.now) s)) (sym c.in_ok-push-in-Block.ensures.ok)
-
-pub returns-in_ok-push-in-Loop-clause-leads : goal.returns-in_ok-push-in-Loop-clause-leads
-returns-in_ok-push-in-Loop-clause-leads g c = λ w last outside.
-    let P = program_of c.args.functions.now in
-    let t = c.args.thread.now in
-    let s = state_of t.state w c.args.left.now last outside in
-    let m = under g.H.Host.meaning P t.free t.state.values.below in
-    let e = ap (λ x. whole g.H.Host.meaning P t (acts P (call g.H.Host.meaning P t.free) x s)) (c.in-Loop.ensures (expression_of t.code.now)) in
-    e ∙ again g.H.Host.meaning P w c.args.left.now last outside g.met.H.Host.falls t.free t.state.values.below t.frames (length t.state.values.stack) c.in-Loop.body t.code s
-    ∙ ap (λ h. m (frame.Loop h c.in-Loop.body t.code ∷ t.frames) (does P (call g.H.Host.meaning P t.free) (expression_of c.in-Loop.body.now) s)) (sym c.height-height-in-Loop.ensures)
-    ∙ ap (λ fs. m fs (does P (call g.H.Host.meaning P t.free) (expression_of c.in-Loop.body.now) s)) (sym c.in_ok-push-in-Loop.ensures.ok)
-
-pub returns-in_ok-push-in-If-clause-leads : goal.returns-in_ok-push-in-If-clause-leads
-returns-in_ok-push-in-If-clause-leads g c = λ w last outside.
-    let P = program_of c.args.functions.now in
-    let t = c.args.thread.now in
-    let q = c.requires.sound in
-    let s0 = state_of t.state q.0 c.args.left.now q.1 q.2 in
-    let lt = operand g.H.Host.meaning P t _ _ s0 _ (c.in-If.ensures (expression_of t.code.now)) refl q.3 in
-    let s = state_of t.state w c.args.left.now last outside in
-    let m = under g.H.Host.meaning P t.free t.state.values.below in
-    let e = ap (λ x. whole g.H.Host.meaning P t (acts P (call g.H.Host.meaning P t.free) x s)) (c.in-If.ensures (expression_of t.code.now)) in
-    let n : low (top t.state.values.stack) ≡ c.low-test.result = sym (c.low-test.ensures ∙ ap low c.pop.ensures.value) in
-    e ∙ ap (whole g.H.Host.meaning P t) (If_is P (call g.H.Host.meaning P t.free) s lt c.in-If.kind (expression_of c.in-If.one.now) (expression_of c.in-If.two.now) (expression_of t.code.now)) ∙ conditional g.H.Host.meaning P w c.args.left.now last outside t.free t.frames c.push-in-If.new.self t.state c.in-If.kind c.height-height-in-If.result t.code c.in-If.one c.in-If.two c.chosen-thread.result
-    (low (top t.state.values.stack) == 0) (c.low-test.result == 0) c.pop.new.self (ap (λ k. k == 0) n) c.chosen-thread.ensures c.pop.ensures.rest c.height-height-in-If.ensures c.in_ok-push-in-If.ensures.ok
+pub returns-in-Block-clause-leads : goal.returns-in-Block-clause-leads
+returns-in-Block-clause-leads g c = if_ok c.begin.result _ _ (λ next h w last outside. h (program_of c.args.functions.now) w c.args.left.now last outside) c.begin.ensures.leads
 
 pub returns-else-low-eq0-clause-leads : goal.returns-else-low-eq0-clause-leads
 returns-else-low-eq0-clause-leads g c = λ w last outside.
@@ -93,10 +61,10 @@ returns-else-low-eq0-clause-leads g c = λ w last outside.
     let s = state_of t.state w c.args.left.now last outside in
     let m = under g.H.Host.meaning P t.free t.state.values.below in
     let e = ap (λ x. whole g.H.Host.meaning P t (acts P (call g.H.Host.meaning P t.free) x s)) (c.in-BrIf.ensures (expression_of t.code.now)) in
-    let n : low (top t.state.values.stack) ≡ c.low.result = sym (c.low.ensures ∙ ap low c.pop-in-BrIf.ensures.value) in
+    let n : low (top t.state.values.stack) ≡ c.low.result = sym (c.low.ensures ∙ ap low c.pop.ensures.value) in
     let taken : (low (top t.state.values.stack) == 0) ≡ false = ap (λ k. k == 0) n ∙ grind (arith, eqb-true, c.if-low-eq0.false) in
     e ∙ ap (whole g.H.Host.meaning P t) (BrIf_is P (call g.H.Host.meaning P t.free) s lt c.in-BrIf.depth (expression_of t.code.now)) ∙ ap (λ b. whole g.H.Host.meaning P t (and_then (jump_unless b c.in-BrIf.depth (on_stack s (popped t.state.values.stack))) (rest_of g.H.Host.meaning P t))) taken
-    ∙ ap (λ v. under g.H.Host.meaning P t.free v.below t.frames (Branch c.in-BrIf.depth (state_of (record t.state { values = v }) w c.args.left.now last outside))) (sym c.pop-in-BrIf.ensures.rest)
+    ∙ ap (λ v. under g.H.Host.meaning P t.free v.below t.frames (Branch c.in-BrIf.depth (state_of (record t.state { values = v }) w c.args.left.now last outside))) (sym c.pop.ensures.rest)
     ∙ c.branch-thread-in-BrIf.ensures.whole P w c.args.left.now last outside
 
 pub returns-in-BrTable-clause-leads : goal.returns-in-BrTable-clause-leads
@@ -177,23 +145,14 @@ returns-then-low-eq0-clause-leads g c = λ w last outside.
     let is = c.in-BrIf.ensures (expression_of t.code.now) in
     let lt = operand g.H.Host.meaning P t _ _ s0 _ is refl q.3 in
     let s = state_of t.state w c.args.left.now last outside in
-    let n : low (top t.state.values.stack) ≡ c.low.result = sym (c.low.ensures ∙ ap low c.pop-in-BrIf.ensures.value) in
+    let n : low (top t.state.values.stack) ≡ c.low.result = sym (c.low.ensures ∙ ap low c.pop.ensures.value) in
     ap (λ x. whole g.H.Host.meaning P t (acts P (call g.H.Host.meaning P t.free) x s)) is
     ∙ ap (whole g.H.Host.meaning P t) (BrIf_is P (call g.H.Host.meaning P t.free) s lt c.in-BrIf.depth (expression_of t.code.now))
     ∙ ap (λ k. whole g.H.Host.meaning P t (and_then (jump_unless (k == 0) c.in-BrIf.depth (on_stack s (popped t.state.values.stack))) (rest_of g.H.Host.meaning P t))) (n ∙ c.if-low-eq0.true)
-    ∙ ap (λ v. under g.H.Host.meaning P t.free v.below t.frames (rest_of g.H.Host.meaning P t (state_of (record t.state { values = v }) w c.args.left.now last outside))) (sym c.pop-in-BrIf.ensures.rest)
+    ∙ ap (λ v. under g.H.Host.meaning P t.free v.below t.frames (rest_of g.H.Host.meaning P t (state_of (record t.state { values = v }) w c.args.left.now last outside))) (sym c.pop.ensures.rest)
 
 pub pop-requires : goal.pop-requires
 pop-requires g c =
-    let P = program_of c.args.functions.now in
-    let t = c.args.thread.now in
-    let q = c.requires.sound in
-    let s0 = state_of t.state q.0 c.args.left.now q.1 q.2 in
-    let is = c.in-If.ensures (expression_of t.code.now) in
-    operand g.H.Host.meaning P t _ _ s0 _ is refl q.3
-
-pub pop-requires-in-BrIf : goal.pop-requires-in-BrIf
-pop-requires-in-BrIf g c =
     let P = program_of c.args.functions.now in
     let t = c.args.thread.now in
     let q = c.requires.sound in
@@ -275,9 +234,9 @@ branch-thread-requires-in-BrIf-clause-reaches g c =
     let s0 = state_of t.state q.0 c.args.left.now q.1 q.2 in
     let is = c.in-BrIf.ensures (expression_of t.code.now) in
     let lt = operand g.H.Host.meaning P t _ _ s0 _ is refl q.3 in
-    let n : low (top t.state.values.stack) ≡ c.low.result = sym (c.low.ensures ∙ ap low c.pop-in-BrIf.ensures.value) in
+    let n : low (top t.state.values.stack) ≡ c.low.result = sym (c.low.ensures ∙ ap low c.pop.ensures.value) in
     let taken : (low (top t.state.values.stack) == 0) ≡ false = ap (λ k. k == 0) n ∙ grind (arith, eqb-true, c.if-low-eq0.false) in
-    subst (λ v. Reaches t.frames c.in-BrIf.depth (length v.stack)) (sym c.pop-in-BrIf.ensures.rest)
+    subst (λ v. Reaches t.frames c.in-BrIf.depth (length v.stack)) (sym c.pop.ensures.rest)
     (reaches g.H.Host.meaning P t.free t.state.values.below t.frames c.in-BrIf.depth (on_stack s0 (popped t.state.values.stack))
     (subst (λ b. NotStuck (whole g.H.Host.meaning P t (and_then (jump_unless b c.in-BrIf.depth (on_stack s0 (popped t.state.values.stack))) (rest_of g.H.Host.meaning P t)))) taken
     (subst (λ o. NotStuck (whole g.H.Host.meaning P t o)) (BrIf_is P (call g.H.Host.meaning P t.free) s0 lt c.in-BrIf.depth (expression_of t.code.now)) (begins g.H.Host.meaning P t _ _ s0 is q.3))))

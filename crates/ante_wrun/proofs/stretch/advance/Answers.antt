@@ -1,4 +1,4 @@
-use Rattle.std.proofs.Common.{◌≡◌, ◌-◌, refl, ◌∙◌}
+use Rattle.std.proofs.Common.{◌≡◌, suc, ◌-◌, refl, ◌∙◌}
 use Rattle.ante_wrun.specs.declared.ends.RunEnd.TheVariants as end
 use Rattle.ante_wrun.specs.Control.{Stops}
 use Rattle.ante_wrun.specs.Machine.{goes, plain_of, values_in}
@@ -28,6 +28,7 @@ control_within-requires g c =
       q.1,
       q.2,
       q.3 - 1,
+      suc (q.3 - 1),
       s.0,
       record { values = c.plain.new.values; globals = c.plain.new.globals; memory = c.plain.new.memory },
       still c.args.values.now c.plain.new.values c.args.globals.now.items c.plain.new.globals.items c.args.memory.now c.plain.new.memory
@@ -65,4 +66,4 @@ returns-in-Some-control_within-clause-leads g c = λ program w free left r.
     (untouched (plain_of i) _ _ c.in-Untouched.ensures.effect) c.plain.ensures.below
     (λ v globals memory. acting g.H.Host.meaning program free c.args.frames.now w i c.in-Some.rest.now c.args.values.now (stepping c.args.values.now c.args.globals.now.items c.args.memory.now w (left - 1) o)
     ≡ acting g.H.Host.meaning program free c.args.frames.now w i c.in-Some.rest.now v (stepping v globals memory w (left - 1) o)) refl
-    ∙ c.in-Some-control_within.ensures.leads program w free (left - 1) o (record { values = new.values; globals = new.globals; memory = new.memory }))
+    ∙ c.in-Some-control_within.ensures.leads program w free (left - 1) (suc (left - 1)) o (record { values = new.values; globals = new.globals; memory = new.memory }))

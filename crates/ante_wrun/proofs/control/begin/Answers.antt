@@ -1,0 +1,10 @@
+use Rattle.ante_wrun.proofs.control.begin.Goals as goal
+
+pub control_within-requires : goal.control_within-requires
+control_within-requires g c =
+    let q = c.requires.sound in
+    let t = c.args.thread.now in
+    (q.0, q.1, t.free, q.2, q.3, q.4, t.state, q.5)
+
+pub returns-in-Some-clause-leads : goal.returns-in-Some-clause-leads
+returns-in-Some-clause-leads g c = λ program w left last outside. let t = c.args.thread.now in c.in-Some.ensures.leads program w t.free left last outside t.state
