@@ -15,8 +15,8 @@ use Rattle.ante_wtree.specs.Expressions.{Expression, expression_of}
 use Rattle.ante_wrun.specs.declared.ends.RunEnd.{RunEnd}
 use Rattle.ante_wrun.specs.declared.ends.RunEnd.TheVariants as end
 use Rattle.ante_wrun.specs.declared.data.Data.{Data}
-use Rattle.ante_wrun.specs.declared.thread.Frame.{Frame}
-use Rattle.ante_wrun.specs.declared.thread.Frame.TheVariants as frame
+use Rattle.ante_wrun.specs.declared.blocks.Frame.{Frame}
+use Rattle.ante_wrun.specs.declared.blocks.Frame.TheVariants as frame
 use Rattle.ante_wrun.specs.declared.control.Function.{Function}
 use Rattle.ante_wrun.specs.declared.control.Next.{Next as After}
 use Rattle.ante_wrun.specs.declared.control.Next.TheVariants as next

@@ -8,13 +8,14 @@ use Rattle.ante_wtree.specs.declared.instructions.Instr.{Instr}
 use Rattle.ante_wtree.specs.declared.instructions.ValueKind.{ValueKind}
 use Rattle.ante_wtree.specs.Expressions.{Expression, Br, BrIf, expression_of}
 use Rattle.ante_wrun.specs.declared.data.Data.{Data}
-use Rattle.ante_wrun.specs.declared.thread.Frame.{Frame}
-use Rattle.ante_wrun.specs.declared.thread.Frame.TheVariants as frame
-use Rattle.ante_wrun.specs.Meaning.{Outside, Program, State, Outcome, Normal, Branch, arity, keep, unwound, only_if, and_then, jump_unless, taking, on_stack, acts, does, call}
+use Rattle.ante_wrun.specs.declared.blocks.Frame.{Frame}
+use Rattle.ante_wrun.specs.declared.blocks.Frame.TheVariants as frame
+use Rattle.ante_wrun.specs.Meaning.{Outside, Program, State, Outcome, Normal, Branch, Returned, arity, keep, unwound, only_if, and_then, jump_unless, taking, on_stack, acts, does, call}
 use Rattle.ante_wrun.specs.Effects.{low, top, popped}
 use Rattle.ante_wrun.specs.Frames.{FrameValues}
-use Rattle.ante_wrun.specs.Machine.{state_of, under, goes, Reaches, Nested}
+use Rattle.ante_wrun.specs.Machine.{state_of, under, goes, Reaches, Returns, Nested}
 use Rattle.ante_wrun.specs.Runs.{NotStuck}
+use Rattle.ante_wrun.specs.Stretches.{IsOwnLabel}
 use Rattle.ante_wrun.proofs.Falls.{HostFalls}
 use Rattle.ante_wrun.proofs.Bodies.{land_Loop}
 use Rattle.ante_wrun.proofs.Rules.{has_one, inner, reaches, BrIf_is}
@@ -54,7 +55,41 @@ there (suc n) (frame.Block kind height rest ∷ frames) count r e = there n fram
 there (suc n) (frame.Loop height body rest ∷ frames) count r e = there n frames count r e
 there (suc n) (frame.Call kind base locals free rest ∷ frames) count r e = r
 
+-- ---- the function's own label
+
+pub own_label : (depth : ℕ) (frames : List Frame) (count : ℕ) (kind : Option ValueKind) (base locals free : ℕ) (rest : Bor (List Instr)) → Reaches frames depth count →
+    slice_get frames depth ≡ Some (frame.Call kind base locals free rest) → IsOwnLabel frames depth
+own_label zero [] count kind base locals free rest r e = r
+own_label zero (frame.Block k h x ∷ frames) count kind base locals free rest r e = cc
+own_label zero (frame.Loop h b x ∷ frames) count kind base locals free rest r e = cc
+own_label zero (frame.Call k b l f x ∷ frames) count kind base locals free rest r e = tt
+own_label (suc n) [] count kind base locals free rest r e = r
+own_label (suc n) (frame.Block k h x ∷ frames) count kind base locals free rest r e = own_label n frames count kind base locals free rest r e
+own_label (suc n) (frame.Loop h b x ∷ frames) count kind base locals free rest r e = own_label n frames count kind base locals free rest r e
+own_label (suc n) (frame.Call k b l f x ∷ frames) count kind base locals free rest r e = r
+
+pub returns_from : (depth : ℕ) (frames : List Frame) (count : ℕ) → IsOwnLabel frames depth → Reaches frames depth count → Returns frames count
+returns_from depth [] count o r = o
+returns_from zero (frame.Block k h x ∷ frames) count o r = absurd o
+returns_from (suc n) (frame.Block k h x ∷ frames) count o r = returns_from n frames count o r
+returns_from zero (frame.Loop h b x ∷ frames) count o r = absurd o
+returns_from (suc n) (frame.Loop h b x ∷ frames) count o r = returns_from n frames count o r
+returns_from zero (frame.Call k b l f x ∷ frames) count o r = r
+returns_from (suc n) (frame.Call k b l f x ∷ frames) count o r = absurd o
+
 module _ {W R : Type 0} (host : HostMeaning W R) (program : Program) where
+  pub as_return : (depth free : ℕ) (below : List ℕ) (frames : List Frame) (s : State W) → IsOwnLabel frames depth →
+      under host program free below frames (Branch depth s) ≡ under host program free below frames (Returned s)
+  as_return depth free below [] s o = absurd o
+  as_return zero free below (frame.Block k h x ∷ frames) s o = absurd o
+  as_return (suc n) free below (frame.Block k h x ∷ frames) s o = as_return n free below frames s o
+  as_return zero free below (frame.Loop h b x ∷ frames) s o = absurd o
+  as_return (suc n) free below (frame.Loop h b x ∷ frames) s o = as_return n free below frames s o
+  as_return zero free below (frame.Call k b l f x ∷ frames) s o = refl
+  as_return (suc n) free below (frame.Call k b l f x ∷ frames) s o = absurd o
+
+  -- ---- a label inside the function
+
   passes : (depth free : ℕ) (below : List ℕ) (frames : List Frame) (count : ℕ) (s : State W) → Reaches frames depth count →
       under host program free below frames (Branch depth s) ≡ under host program free below (drop depth frames) (Branch 0 s)
   passes zero free below frames count s r = refl

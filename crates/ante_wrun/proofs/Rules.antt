@@ -2,17 +2,15 @@
 use Rattle.std.proofs.Common.{◌≡◌, ℕ, zero, suc, ◌+◌, ◌<◌, ◌≤◌, Bool, true, false, List, [], ◌∷◌, length, take, Option, None, Some, Result, Ok, Err, refl, ap, subst, arith}
 use Rattle.std.specs.Prelude.{◌&&◌, ◌==◌, nat_le, slice_get, slice_index_or, if◌then◌else◌}
 use Rattle.std.proofs.lemmas.Bool.{leb-true}
-use denote.Bor.{Bor}
 use Rattle.ante_wmem.specs.HostCalls.{HostMeaning}
 use Rattle.ante_wmem.specs.HostCalls as calls
-use Rattle.ante_wtree.specs.declared.instructions.Instr.{Instr}
 use Rattle.ante_wtree.specs.declared.instructions.ValueKind.{ValueKind}
 use Rattle.ante_wtree.specs.declared.instructions.PlainInstr.{PlainInstr}
 use Rattle.ante_wtree.specs.declared.modules.FuncType.{FuncType}
 use Rattle.ante_wtree.specs.Expressions.{Expression, If, BrIf, BrTable, CallIndirect, MemoryGrow}
 use Rattle.ante_wrun.specs.declared.ends.TrapKind.{TrapKind}
-use Rattle.ante_wrun.specs.declared.thread.Frame.{Frame}
-use Rattle.ante_wrun.specs.declared.thread.Frame.TheVariants as frame
+use Rattle.ante_wrun.specs.declared.blocks.Frame.{Frame}
+use Rattle.ante_wrun.specs.declared.blocks.Frame.TheVariants as frame
 use Rattle.ante_wrun.specs.declared.thread.Thread.{Thread}
 use Rattle.ante_wrun.specs.Effects.{Values, Effect, NoRule, effect, operands, finds, done, low, top, popped}
 use Rattle.ante_wrun.specs.Meaning.{Program, FunctionInstance, Own, Given, Missing, State, Outcome, Normal, Branch, Returned, Ended, Lacks, InHost, Stuck, arity, only_if, and_then, of_effect, of_block, chosen, jump_unless, grow, element, acts, does, taking, on_stack, stack_of, target, of_function, of_reply, call}
@@ -168,8 +166,3 @@ module _ {W R : Type 0} (program : Program) (calls : ℕ → State W → Outcome
 
   pub MemoryGrow_is : (rest : Expression) → acts program calls (MemoryGrow rest) s ≡ and_then (grow lowest below) (does program calls rest)
   MemoryGrow_is rest = takes_one (stack_of s) s _ lt
-
--- ---- the frame on top, at a branch
-
-pub at_Loop : (frames new : List Frame) (height : ℕ) (body rest : Bor (List Instr)) (n count : ℕ) → frames ≡ frame.Loop height body rest ∷ new → n ≡ 0 → Reaches frames n count → height ≤ count
-at_Loop frames new height body rest n count e f h = subst (λ k. Reaches (frame.Loop height body rest ∷ new) k count) f (subst (λ fs. Reaches fs n count) e h)

@@ -12,7 +12,7 @@ use Rattle.ante_wtree.specs.Expressions.{expression_of, put}
 use Rattle.ante_wrun.specs.declared.ends.TrapKind.{TrapKind}
 use Rattle.ante_wrun.specs.declared.ends.RunEnd.TheVariants as end
 use Rattle.ante_wrun.specs.declared.plain.Tried.TheVariants as tried
-use Rattle.ante_wrun.specs.declared.thread.Frame.{Frame}
+use Rattle.ante_wrun.specs.declared.blocks.Frame.{Frame}
 use Rattle.ante_wrun.specs.declared.thread.Thread.{Thread}
 use Rattle.ante_wrun.specs.Effects.{Values, effect}
 use Rattle.ante_wrun.specs.Meaning.{Outside, after_item, Program, State, Outcome, of_effect, seen, due, round, acts, does, call}

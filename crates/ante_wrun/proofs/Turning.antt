@@ -13,8 +13,8 @@ use Rattle.ante_wtree.specs.declared.modules.FuncType.{FuncType}
 use Rattle.ante_wtree.specs.Expressions.{Expression, Over, expression_of, put}
 use Rattle.ante_wrun.specs.declared.ends.RunEnd.{RunEnd}
 use Rattle.ante_wrun.specs.declared.ends.RunEnd.TheVariants as end
-use Rattle.ante_wrun.specs.declared.thread.Frame.{Frame}
-use Rattle.ante_wrun.specs.declared.thread.Frame.TheVariants as frame
+use Rattle.ante_wrun.specs.declared.blocks.Frame.{Frame}
+use Rattle.ante_wrun.specs.declared.blocks.Frame.TheVariants as frame
 use Rattle.ante_wrun.specs.declared.thread.Thread.{Thread}
 use Rattle.ante_wrun.specs.Meaning.{Outside, after_look, after_item, Program, State, Outcome, Normal, Branch, Returned, Ended, Lacks, InHost, Stuck, and_then, settled, invoked, stack_of, arguments, masked, supplied, pay, seen, step, starts, due, of_reply, host_supplied, call_host, acts, does, call}
 use Rattle.ante_wrun.specs.Machine.{state_of, under, whole, going, after, Finds}

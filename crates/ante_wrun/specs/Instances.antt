@@ -75,10 +75,6 @@ abbrev pub most_pages : Option ℕ → ℕ
 most_pages None = 528
 most_pages (Some most) = min most 528
 
-abbrev pub least_pages : List Limits → ℕ
-least_pages [] = 0
-least_pages (l ∷ ls) = l.least
-
 -- A memory of zeros. A module without one has a memory of no pages, which can't grow.
 abbrev pub empty_memory : List Limits → LinearMemory
 empty_memory [] = record { bytes = []; most = 0 }

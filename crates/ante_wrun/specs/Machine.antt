@@ -9,8 +9,8 @@ use Rattle.ante_wtree.specs.Expressions.{Expression, Over, Plain, Block, Loop, I
 use Rattle.ante_wrun.specs.declared.data.Data.{Data}
 use Rattle.ante_wrun.specs.declared.plain.Tried.{Tried}
 use Rattle.ante_wrun.specs.declared.plain.Tried.TheVariants as tried
-use Rattle.ante_wrun.specs.declared.thread.Frame.{Frame}
-use Rattle.ante_wrun.specs.declared.thread.Frame.TheVariants as frame
+use Rattle.ante_wrun.specs.declared.blocks.Frame.{Frame}
+use Rattle.ante_wrun.specs.declared.blocks.Frame.TheVariants as frame
 use Rattle.ante_wrun.specs.declared.thread.Thread.{Thread}
 use Rattle.ante_wrun.specs.Effects.{Values, Effect, Next, Traps, operands, finds, done}
 use Rattle.ante_wrun.specs.Meaning.{Outside, Program, State, Outcome, Normal, arity, and_then, does, call}

@@ -1,13 +1,13 @@
 -- What a stretch of instructions leads to that no look interrupts and that wants no memory.
-use Rattle.std.specs.Prelude.{◌≡◌, ℕ, suc, List, replicate, Option, None, Some}
+use Rattle.std.specs.Prelude.{◌≡◌, ℕ, zero, suc, List, [], ◌∷◌, replicate, Option, None, Some}
 use denote.Bor.{Bor}
 use Rattle.ante_wmem.specs.Linear.{LinearMemory}
 use Rattle.ante_wmem.specs.HostCalls.{HostMeaning}
 use Rattle.ante_wtree.specs.declared.instructions.Instr.{Instr}
 use Rattle.ante_wrun.specs.declared.ends.TrapKind.{TrapKind}
 use Rattle.ante_wrun.specs.declared.ends.RunEnd.TheVariants as end
-use Rattle.ante_wrun.specs.declared.thread.Frame.{Frame}
-use Rattle.ante_wrun.specs.declared.thread.Frame.TheVariants as frame
+use Rattle.ante_wrun.specs.declared.blocks.Frame.{Frame}
+use Rattle.ante_wrun.specs.declared.blocks.Frame.TheVariants as frame
 use Rattle.ante_wrun.specs.declared.thread.Thread.{Thread}
 use Rattle.ante_wrun.specs.declared.stretch.Moved.{Moved}
 use Rattle.ante_wrun.specs.declared.stretch.Moved.TheVariants as moved
@@ -34,6 +34,16 @@ abbrev pub IsInner : Frame → Type 0
 IsInner (frame.Block kind height rest) = Unit {0}
 IsInner (frame.Loop height body rest) = Unit {0}
 IsInner (frame.Call kind base locals free rest) = ⊥
+
+-- the label of this depth is the function's own: the first open call's
+abbrev pub IsOwnLabel : List Frame → (depth : ℕ) → Type 0
+IsOwnLabel [] depth = ⊥
+IsOwnLabel (frame.Block kind height rest ∷ frames) zero = ⊥
+IsOwnLabel (frame.Block kind height rest ∷ frames) (suc depth) = IsOwnLabel frames depth
+IsOwnLabel (frame.Loop height body rest ∷ frames) zero = ⊥
+IsOwnLabel (frame.Loop height body rest ∷ frames) (suc depth) = IsOwnLabel frames depth
+IsOwnLabel (frame.Call kind base locals free rest ∷ frames) zero = Unit {0}
+IsOwnLabel (frame.Call kind base locals free rest ∷ frames) (suc depth) = ⊥
 
 module _ {W R : Type 0} (host : HostMeaning W R) (program : Program) (free : ℕ) (frames : List Frame) where
   -- a branch that was made, or none

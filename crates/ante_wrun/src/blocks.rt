@@ -1,19 +1,40 @@
 //! Control instructions that stay within their function (section 4.4.5), on its values and open bodies.
-ghost use Rattle.std.specs.Prelude.{◌≡◌, ℕ, suc, ◌+◌, ◌<◌, ◌==◌, if◌then◌else◌, List, Option, None, Some, length, drop, slice_get};
-ghost use Rattle.std.specs.Option.{IfSome};
+ghost use Rattle.std.specs.Prelude.{◌≡◌, ℕ, suc, ◌+◌, ◌<◌, ◌==◌, if◌then◌else◌, List, Option, None, Some, length, drop, slice_get, MatchOption};
 ghost use Rattle.ante_wtree.specs.Expressions.{put, expression_of};
 ghost use Rattle.ante_wrun.specs.Meaning.{Outside, Program, Branch, acts, call};
 ghost use Rattle.ante_wrun.specs.Machine.{state_of, under, goes, Reaches, Nested};
 ghost use Rattle.ante_wrun.specs.Runs.{NotStuck};
-ghost use Rattle.ante_wrun.specs.Stretches.{SameFrom, IsInner, BranchLeads};
+ghost use Rattle.ante_wrun.specs.Stretches.{SameFrom, IsInner, IsOwnLabel, BranchLeads};
 
 use crate::data::{Data, low};
-use crate::thread::Frame;
 use crate::values::ValueStack;
 use ante_stack::Stack;
 use ante_wmem::Host;
-use ante_wtree::{Instr, Shape, shape_of};
+use ante_wtree::{Instr, Shape, ValueKind, shape_of};
 use std::alloc::Global;
+
+/// A body that isn't ended, with what is to be done after it.
+#[derive(Clone, Copy)]
+pub(crate) enum Frame<'a> {
+    Block {
+        kind: Option<ValueKind>,
+        height: usize,
+        rest: &'a [Instr],
+    },
+    Loop {
+        height: usize,
+        body: &'a [Instr],
+        rest: &'a [Instr],
+    },
+    /// Where the caller's locals begin and how many they are, and how many frames are free for it.
+    Call {
+        kind: Option<ValueKind>,
+        base: usize,
+        locals: usize,
+        free: u32,
+        rest: &'a [Instr],
+    },
+}
 
 /// The code that is next after the blocks and loops that have ended.
 #[inline(always)]
@@ -56,9 +77,9 @@ fn discard(frames: &mut Stack<Frame<'_>>, count: usize)
 
 /// The block or loop whose label has this depth; none where the label is the function's own.
 #[inline(always)]
-fn inner_label<'a>(frames: &Stack<Frame<'a>>, depth: u32) -> Option<Frame<'a>>
+pub(crate) fn inner_label<'a>(frames: &Stack<Frame<'a>>, depth: u32) -> Option<Frame<'a>>
     requires { (count : ℕ) × Reaches frames.now depth count }
-    ensures { IfSome result (λ frame. (slice_get frames.now depth ≡ Some frame) × IsInner frame) }
+    ensures { MatchOption result (IsOwnLabel frames.now depth) (λ frame. (slice_get frames.now depth ≡ Some frame) × IsInner frame) }
 {
     let Some(frame) = frames.at(depth as usize) else {
         unreachable!()
@@ -71,7 +92,7 @@ fn inner_label<'a>(frames: &Stack<Frame<'a>>, depth: u32) -> Option<Frame<'a>>
 
 /// Branches to a block's or a loop's label.
 #[inline(always)]
-fn land<'a, H: Host>(
+pub(crate) fn land<'a, H: Host>(
     values: &mut ValueStack,
     frames: &mut Stack<Frame<'a>>,
     depth: u32,

@@ -7,11 +7,11 @@ ghost use Rattle.ante_wrun.specs.Machine.{state_of, whole, going, after, IsNeste
 ghost use Rattle.ante_wrun.specs.Control.{instance_of, program_of, own_at, Leads, NotHostCall, GivenAt, Takes, Leaves};
 ghost use Rattle.ante_wrun.specs.Runs.{NotStuck};
 
-use crate::blocks::control_within;
+use crate::blocks::{Frame, control_within};
 use crate::data::low;
 use crate::ends::TrapKind;
 use crate::plain::{Tried, plain_with_room};
-use crate::thread::{Frame, Thread, branch, leave};
+use crate::thread::{Thread, branch, leave};
 use ante_wmem::Host;
 use ante_wtree::{FuncType, Instr, Shape, ValueKind, shape_of};
 use std::alloc::{AllocError, Global};

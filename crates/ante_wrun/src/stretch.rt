@@ -6,10 +6,10 @@ ghost use Rattle.ante_wrun.specs.Machine.{goes, state_of, going, IsNested, Neste
 ghost use Rattle.ante_wrun.specs.Runs.{Begins, past, Sound};
 ghost use Rattle.ante_wrun.specs.Stretches.{stepping, Quietly, MoveLeads, CodeLeads, StretchLeads};
 
-use crate::blocks::{after_blocks, control_within};
+use crate::blocks::{Frame, after_blocks, control_within};
 use crate::ends::TrapKind;
 use crate::plain::{Tried, plain};
-use crate::thread::{Frame, Thread};
+use crate::thread::Thread;
 use crate::values::ValueStack;
 use ante_stack::Stack;
 use ante_wmem::{Host, Memory};

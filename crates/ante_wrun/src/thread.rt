@@ -5,33 +5,11 @@ ghost use Rattle.ante_wrun.specs.Meaning.{Outside, Program, Normal, Branch, Retu
 ghost use Rattle.ante_wrun.specs.Machine.{state_of, under, whole, going, Nested, IsNested, Finds, Reaches, Returns, Gives};
 ghost use Rattle.ante_wrun.specs.Runs.{NotStuck};
 
+use crate::blocks::{Frame, inner_label, land};
 use crate::data::Data;
 use ante_stack::Stack;
 use ante_wmem::Host;
 use ante_wtree::{Instr, ValueKind};
-
-/// A body that isn't ended, with what is to be done after it.
-#[derive(Clone, Copy)]
-pub(crate) enum Frame<'a> {
-    Block {
-        kind: Option<ValueKind>,
-        height: usize,
-        rest: &'a [Instr],
-    },
-    Loop {
-        height: usize,
-        body: &'a [Instr],
-        rest: &'a [Instr],
-    },
-    /// Where the caller's locals begin and how many they are, and how many frames are free for it.
-    Call {
-        kind: Option<ValueKind>,
-        base: usize,
-        locals: usize,
-        free: u32,
-        rest: &'a [Instr],
-    },
-}
 
 /// What is left of the innermost body, and the bodies round it.
 #[derive(Drop)]
@@ -93,7 +71,7 @@ pub(crate) fn next_instr<'a, H: Host>(thread: &mut Thread<'a>) -> Option<&'a Ins
     }
 }
 
-/// Branches to the label of a depth.
+/// Branches to the label of a depth. The function's own label is where it returns to.
 #[inline(never)]
 pub(crate) fn branch<'a, H: Host>(thread: &mut Thread<'a>, depth: u32)
     requires reaches { Reaches thread.old.frames depth (length thread.old.state.values.stack) }
@@ -103,42 +81,13 @@ pub(crate) fn branch<'a, H: Host>(thread: &mut Thread<'a>, depth: u32)
         ≡ going H.meaning program thread.new (state_of thread.new.state w left last outside) }
     ensures nested { IsNested thread.new }
 {
-    let mut out = depth;
-    'frames: while let Some(frame) = thread.frames.top() {
-        match frame {
-            Frame::Block { kind, height, rest } => {
-                thread.frames.discard();
-                if out == 0 {
-                    thread.state.values.unwind(kind, height);
-                    thread.code = rest;
-                    return;
-                }
-            }
-            Frame::Loop { height, body, .. } => {
-                if out == 0 {
-                    thread.state.values.keep(height);
-                    thread.code = body;
-                    return;
-                }
-                thread.frames.discard();
-            }
-            Frame::Call {
-                kind,
-                base,
-                locals,
-                free,
-                rest,
-            } => {
-                thread.frames.discard();
-                thread.state.values.leave(kind, base, locals);
-                thread.free = free;
-                thread.code = rest;
-                return;
-            }
+    match inner_label(&thread.frames, depth) {
+        Some(frame) => {
+            let values = &mut thread.state.values;
+            thread.code = land::<H>(values, &mut thread.frames, depth, frame);
         }
-        out -= 1;
+        None => leave::<H>(thread),
     }
-    unreachable!()
 }
 
 /// Returns from the function.

@@ -1,18 +1,16 @@
-use Rattle.std.proofs.Common.{◌≡◌, ◌∷◌, false, length, refl, sym, ap, subst, ◌∙◌, arith}
+use Rattle.std.proofs.Common.{◌≡◌, false, length, refl, sym, ap, subst, ◌∙◌, arith}
 use Rattle.std.specs.Prelude.{◌==◌, slice_index_or}
 use Rattle.std.proofs.lemmas.Bool.{eqb-true}
 use Rattle.ante_wtree.specs.Expressions.{Over, expression_of}
 use Rattle.ante_wrun.specs.declared.ends.RunEnd.TheVariants as end
-use Rattle.ante_wrun.specs.declared.thread.Frame.TheVariants as frame
 use Rattle.ante_wrun.specs.declared.plain.Tried.TheVariants as tried
 use Rattle.ante_wrun.specs.Effects.{low, top, popped}
-use Rattle.ante_wrun.specs.Meaning.{Branch, and_then, of_effect, jump_unless, element, on_stack, acts, does, call}
+use Rattle.ante_wrun.specs.Meaning.{Branch, and_then, of_effect, jump_unless, element, on_stack, acts, call}
 use Rattle.ante_wrun.specs.Machine.{state_of, values_of, rest_of, under, whole, Reaches, Ready, TriesPlain, plain_at, plain_of}
 use Rattle.ante_wrun.specs.Control.{program_of, Leads}
-use Rattle.ante_wrun.proofs.Bodies.{again}
-use Rattle.ante_wrun.proofs.Calls.{if_ok, ended, conditional}
+use Rattle.ante_wrun.proofs.Calls.{if_ok, ended}
 use Rattle.ante_wrun.specs.Runs.{NotStuck}
-use Rattle.ante_wrun.proofs.Rules.{first_runs, has_operands, has_place, effect_is, reaches, returns, callable, leaves, alone, begins, operand, If_is, BrIf_is, BrTable_is, CallIndirect_is, MemoryGrow_is}
+use Rattle.ante_wrun.proofs.Rules.{first_runs, has_operands, has_place, effect_is, reaches, returns, callable, leaves, alone, begins, operand, BrIf_is, BrTable_is, CallIndirect_is, MemoryGrow_is}
 use Rattle.ante_wrun.proofs.control.act.Goals as goal
 
 -- the instruction is plain, and ready

@@ -1,7 +1,7 @@
 use Rattle.std.proofs.Common.{ℕ, ◌-◌, [], ◌∷◌, ◌++◌, length, drop, reverse, replicate, ap, ◌∙◌, arith}
 use Rattle.ante_wtree.specs.Expressions.{expression_of}
 use Rattle.ante_wrun.specs.declared.ends.RunEnd.TheVariants as end
-use Rattle.ante_wrun.specs.declared.thread.Frame.TheVariants as frame
+use Rattle.ante_wrun.specs.declared.blocks.Frame.TheVariants as frame
 use Rattle.ante_wrun.specs.Meaning.{result_of, arguments}
 use Rattle.ante_wrun.specs.Frames.{FrameValues}
 use Rattle.ante_wrun.specs.Machine.{state_of, rest_of}

@@ -1,12 +1,19 @@
-use Rattle.std.proofs.Common.{◌∷◌, drop, length, ap, ◌∙◌}
-use Rattle.ante_wrun.proofs.Bodies.{land_Loop}
-use Rattle.ante_wrun.proofs.Rules.{at_Loop}
+use Rattle.std.proofs.Common.{length, ◌∙◌}
+use Rattle.ante_wrun.specs.Machine.{state_of}
+use Rattle.ante_wrun.proofs.Landing.{returns_from, as_return}
 use Rattle.ante_wrun.proofs.thread.branch.Goals as goal
 
-pub returns-then-out-eq0-2-clause-whole : goal.returns-then-out-eq0-2-clause-whole
-returns-then-out-eq0-2-clause-whole g c = λ program w left last outside.
-    c.frames.invariant.0 program w left last outside
-    ∙ land_Loop g.H.Host.meaning program w left last outside g.met.H.Host.falls c.frames.thread.free c.frames.out c.frames.thread.frames (drop 1 c.frames.thread.frames) c.frames.thread.state
-    c.in-Loop.height c.in-Loop.body c.in-Loop.rest c.keep.new.self (c.in-Some.ensures ∙ ap (λ f. f ∷ drop 1 c.frames.thread.frames) c.in-Loop.is) c.if-out-eq0-2.true
-    (at_Loop c.frames.thread.frames (drop 1 c.frames.thread.frames) c.in-Loop.height c.in-Loop.body c.in-Loop.rest c.frames.out (length c.frames.thread.state.values.stack) (c.in-Some.ensures ∙ ap (λ f. f ∷ drop 1 c.frames.thread.frames) c.in-Loop.is) c.if-out-eq0-2.true c.frames.invariant.1)
-    c.keep.ensures
+pub inner_label-requires : goal.inner_label-requires
+inner_label-requires g c = (length c.args.thread.now.state.values.stack, c.requires.reaches)
+
+pub leave-requires-clause-returns : goal.leave-requires-clause-returns
+leave-requires-clause-returns g c = returns_from c.args.depth c.args.thread.now.frames (length c.args.thread.now.state.values.stack) c.in-None.ensures c.requires.reaches
+
+pub returns-in-Some-clause-whole : goal.returns-in-Some-clause-whole
+returns-in-Some-clause-whole g c = λ program w left last outside. let t = c.args.thread.now in c.land-thread.ensures.leads program w t.free left last outside t.state
+
+pub returns-in-None-clause-whole : goal.returns-in-None-clause-whole
+returns-in-None-clause-whole g c = λ program w left last outside.
+    let t = c.args.thread.now in
+    as_return g.H.Host.meaning program c.args.depth t.free t.state.values.below t.frames (state_of t.state w left last outside) c.in-None.ensures
+    ∙ c.leave.ensures.whole program w left last outside
