@@ -1,12 +1,12 @@
 -- Branches to labels inside a function, on the machine's frames.
 use Rattle.std.proofs.Common.{◌≡◌, ℕ, zero, suc, ◌+◌, ◌-◌, ◌<◌, ◌≤◌, true, false, List, [], ◌∷◌, length, drop, Option, None, Some, slice_get, refl, sym, ap, subst, ◌∙◌, arith}
-use Rattle.std.specs.Prelude.{◌==◌}
+use Rattle.std.specs.Prelude.{◌==◌, slice_index_or}
 use Rattle.std.proofs.lemmas.Bool.{le-leb}
 use denote.Bor.{Bor}
 use Rattle.ante_wmem.specs.HostCalls.{HostMeaning}
 use Rattle.ante_wtree.specs.declared.instructions.Instr.{Instr}
 use Rattle.ante_wtree.specs.declared.instructions.ValueKind.{ValueKind}
-use Rattle.ante_wtree.specs.Expressions.{Expression, Br, BrIf, expression_of}
+use Rattle.ante_wtree.specs.Expressions.{Expression, Br, BrIf, BrTable, expression_of}
 use Rattle.ante_wrun.specs.declared.data.Data.{Data}
 use Rattle.ante_wrun.specs.declared.blocks.Frame.{Frame}
 use Rattle.ante_wrun.specs.declared.blocks.Frame.TheVariants as frame
@@ -18,7 +18,7 @@ use Rattle.ante_wrun.specs.Runs.{NotStuck}
 use Rattle.ante_wrun.specs.Stretches.{IsOwnLabel}
 use Rattle.ante_wrun.proofs.Falls.{HostFalls}
 use Rattle.ante_wrun.proofs.Bodies.{land_Loop}
-use Rattle.ante_wrun.proofs.Rules.{has_one, inner, reaches, BrIf_is}
+use Rattle.ante_wrun.proofs.Rules.{has_one, inner, reaches, BrIf_is, BrTable_is}
 
 -- ---- the frames above a label
 
@@ -163,6 +163,15 @@ module _ {W R : Type 0} (host : HostMeaning W R) (program : Program) where
 
     pub reaches_if : (n : ℕ) → x ≡ BrIf n rest → 0 < length v.stack → (low (top v.stack) == 0) ≡ false → NotStuck outcome → Reaches frames n (length (popped v.stack))
     reaches_if n e lt z h = reaches host program free v.below frames n (on_stack state (popped v.stack)) (subst NotStuck (taken n e lt z) h)
+
+    pub tabled : (ns : List ℕ) (n : ℕ) → x ≡ BrTable ns n rest → 0 < length v.stack →
+        outcome ≡ under host program free v.below frames (Branch (slice_index_or ns (low (top v.stack)) n) (on_stack state (popped v.stack)))
+    tabled ns n e lt =
+        ap (λ z. under host program free v.below frames (acts program (call host program free) z state)) e
+        ∙ ap (under host program free v.below frames) (BrTable_is program (call host program free) state lt ns n rest)
+
+    pub reaches_tabled : (ns : List ℕ) (n : ℕ) → x ≡ BrTable ns n rest → 0 < length v.stack → NotStuck outcome → Reaches frames (slice_index_or ns (low (top v.stack)) n) (length (popped v.stack))
+    reaches_tabled ns n e lt h = reaches host program free v.below frames (slice_index_or ns (low (top v.stack)) n) (on_stack state (popped v.stack)) (subst NotStuck (tabled ns n e lt) h)
 
 pub length_popped : (xs : List ℕ) → 0 < length xs → length xs - 1 ≡ length (popped xs)
 length_popped [] lt = absurd (omega (arith, lt))

@@ -1,5 +1,5 @@
 //! Control instructions that stay within their function (section 4.4.5), on its values and open bodies.
-ghost use Rattle.std.specs.Prelude.{◌≡◌, ℕ, suc, ◌+◌, ◌<◌, ◌==◌, if◌then◌else◌, List, Option, None, Some, length, drop, slice_get, MatchOption};
+ghost use Rattle.std.specs.Prelude.{◌≡◌, ℕ, suc, ◌+◌, ◌<◌, ◌==◌, if◌then◌else◌, List, Option, None, Some, length, drop, slice_get, slice_index_or, MatchOption};
 ghost use Rattle.ante_wtree.specs.Expressions.{put, expression_of};
 ghost use Rattle.ante_wrun.specs.Meaning.{Outside, Program, Branch, acts, call};
 ghost use Rattle.ante_wrun.specs.Machine.{state_of, under, goes, Reaches, Nested};
@@ -122,6 +122,14 @@ pub(crate) fn land<'a, H: Host>(
     }
 }
 
+/// The label that a table of labels has at a place, or its last one.
+pub(crate) fn label(labels: &[u32], last: u32, at: u32) -> u32
+    ensures { result ≡ slice_index_or labels.now at last }
+{
+    let at = at as usize;
+    if at < labels.len() { labels[at] } else { last }
+}
+
 fn chosen<'a>(test: u32, one: &'a [Instr], two: &'a [Instr]) -> &'a [Instr]
     ensures { result ≡ (if test == 0 then two.entry else one.entry) }
 {
@@ -186,8 +194,13 @@ pub(crate) fn control_within<'a, H: Host>(
             let _ = values.pop();
             Some(land::<H>(values, frames, depth, frame))
         }
+        Shape::BrTable(labels, last) => {
+            let depth = label(labels, last, low(values.top()));
+            let frame = inner_label(frames, depth)?;
+            let _ = values.pop();
+            Some(land::<H>(values, frames, depth, frame))
+        }
         Shape::Plain(_)
-        | Shape::BrTable(..)
         | Shape::Return
         | Shape::Call(_)
         | Shape::CallIndirect(_)

@@ -1,5 +1,5 @@
 //! What one instruction does to a thread (section 4.4.5).
-ghost use Rattle.std.specs.Prelude.{◌≡◌, ℕ, ◌<◌, ◌≤◌, ◌&&◌, ◌==◌, if◌then◌else◌, List, Option, None, Some, map, length, IfOk, slice_get, slice_index_or};
+ghost use Rattle.std.specs.Prelude.{◌≡◌, ℕ, ◌<◌, ◌≤◌, ◌&&◌, ◌==◌, if◌then◌else◌, List, Option, None, Some, map, length, IfOk, slice_get};
 ghost use Rattle.ante_wtree.specs.Expressions.{put, expression_of};
 ghost use Rattle.ante_wrun.specs.Effects.{low, top, popped};
 ghost use Rattle.ante_wrun.specs.Meaning.{Outside, Program, result_of, same_kind, same_kinds, is_of, element, on_stack, stack_of, grow, target, acts, call};
@@ -7,7 +7,7 @@ ghost use Rattle.ante_wrun.specs.Machine.{state_of, whole, going, after, IsNeste
 ghost use Rattle.ante_wrun.specs.Control.{instance_of, program_of, own_at, Leads, NotHostCall, GivenAt, Takes, Leaves};
 ghost use Rattle.ante_wrun.specs.Runs.{NotStuck};
 
-use crate::blocks::{Frame, control_within};
+use crate::blocks::{Frame, control_within, label};
 use crate::data::low;
 use crate::ends::TrapKind;
 use crate::plain::{Tried, plain_with_room};
@@ -237,13 +237,6 @@ fn grow<'a, H: Host>(
         *left -= u64::from(pages);
     }
     Ok(Next::Go)
-}
-
-fn label(labels: &[u32], last: u32, at: u32) -> u32
-    ensures { result ≡ slice_index_or labels.now at last }
-{
-    let at = at as usize;
-    if at < labels.len() { labels[at] } else { last }
 }
 
 /// Begins a block, a loop or the chosen part of an `if`. Another instruction isn't done here.

@@ -1,5 +1,5 @@
 use Rattle.std.proofs.Common.{◌≡◌, ◌∷◌, ◌-◌, false, length, refl, sym, ap, subst, ◌∙◌, arith}
-use Rattle.std.specs.Prelude.{◌==◌}
+use Rattle.std.specs.Prelude.{◌==◌, slice_index_or}
 use Rattle.std.proofs.lemmas.Bool.{eqb-true}
 use Rattle.ante_wtree.specs.Expressions.{put, expression_of}
 use Rattle.ante_wrun.specs.declared.blocks.Frame.TheVariants as frame
@@ -9,7 +9,7 @@ use Rattle.ante_wrun.specs.Machine.{state_of, under, goes, Reaches}
 use Rattle.ante_wrun.proofs.Bodies.{again}
 use Rattle.ante_wrun.proofs.Calls.{conditional}
 use Rattle.ante_wrun.proofs.Rules.{If_is}
-use Rattle.ante_wrun.proofs.Landing.{takes, reaches_by, goes_on, taken, reaches_if, length_popped}
+use Rattle.ante_wrun.proofs.Landing.{takes, reaches_by, goes_on, taken, reaches_if, tabled, reaches_tabled, length_popped}
 use Rattle.ante_wrun.proofs.blocks.control_within.Goals as goal
 
 pub overflow_sub-height : goal.overflow_sub-height
@@ -128,3 +128,60 @@ returns-in-Ok-push-2-clause-leads g c = λ program w free left last o d.
     ∙ ap (under g.H.Host.meaning program free v.below fs) (If_is program (call g.H.Host.meaning program free) s lt c.in-If.kind (expression_of c.in-If.one.now) (expression_of c.in-If.two.now) rest)
     ∙ conditional g.H.Host.meaning program w left last o free fs c.push-in-If.new.self (record d { values = v }) c.in-If.kind (c.height-height-in-If.result - 1) c.args.rest c.in-If.one c.in-If.two c.chosen.result
     (low (top v.stack) == 0) (c.low-test.result == 0) c.pop.new.self (ap (λ k. k == 0) n) c.chosen.ensures c.pop.ensures.rest height c.in-Ok-push-2.ensures.ok
+
+-- a table of labels
+pub top-requires-in-BrTable : goal.top-requires-in-BrTable
+top-requires-in-BrTable g c =
+    let q = c.requires in
+    let rest = expression_of c.args.rest.now in
+    let v = c.args.values.now in
+    let x = put c.args.instr.now rest in
+    let lt = takes g.H.Host.meaning q.0 q.1 q.2 q.3 q.4 q.5 q.6 c.args.frames.now v x rest _ _ (c.in-BrTable.ensures rest) refl q.7 in
+    lt
+
+pub pop-requires-in-BrTable : goal.pop-requires-in-BrTable
+pop-requires-in-BrTable g c =
+    let q = c.requires in
+    let rest = expression_of c.args.rest.now in
+    let v = c.args.values.now in
+    let x = put c.args.instr.now rest in
+    let lt = takes g.H.Host.meaning q.0 q.1 q.2 q.3 q.4 q.5 q.6 c.args.frames.now v x rest _ _ (c.in-BrTable.ensures rest) refl q.7 in
+    lt
+
+pub inner_label-requires-in-BrTable : goal.inner_label-requires-in-BrTable
+inner_label-requires-in-BrTable g c =
+    let q = c.requires in
+    let rest = expression_of c.args.rest.now in
+    let v = c.args.values.now in
+    let x = put c.args.instr.now rest in
+    let lt = takes g.H.Host.meaning q.0 q.1 q.2 q.3 q.4 q.5 q.6 c.args.frames.now v x rest _ _ (c.in-BrTable.ensures rest) refl q.7 in
+    let n : slice_index_or c.in-BrTable.labels.now (low (top v.stack)) c.in-BrTable.last ≡ c.label-depth.result =
+    ap (λ k. slice_index_or c.in-BrTable.labels.now k c.in-BrTable.last) (sym (c.low-in-BrTable.ensures ∙ ap low c.top-in-BrTable.ensures)) ∙ sym c.label-depth.ensures in
+    let reached = subst (λ k. Reaches c.args.frames.now k (length (popped v.stack))) n (reaches_tabled g.H.Host.meaning q.0 q.1 q.2 q.3 q.4 q.5 q.6 c.args.frames.now v x rest c.in-BrTable.labels.now c.in-BrTable.last (c.in-BrTable.ensures rest) lt q.7) in
+    (length (popped v.stack), reached)
+
+pub land-requires-in-BrTable-clause-reaches : goal.land-requires-in-BrTable-clause-reaches
+land-requires-in-BrTable-clause-reaches g c =
+    let q = c.requires in
+    let rest = expression_of c.args.rest.now in
+    let v = c.args.values.now in
+    let x = put c.args.instr.now rest in
+    let lt = takes g.H.Host.meaning q.0 q.1 q.2 q.3 q.4 q.5 q.6 c.args.frames.now v x rest _ _ (c.in-BrTable.ensures rest) refl q.7 in
+    let n : slice_index_or c.in-BrTable.labels.now (low (top v.stack)) c.in-BrTable.last ≡ c.label-depth.result =
+    ap (λ k. slice_index_or c.in-BrTable.labels.now k c.in-BrTable.last) (sym (c.low-in-BrTable.ensures ∙ ap low c.top-in-BrTable.ensures)) ∙ sym c.label-depth.ensures in
+    let reached = subst (λ k. Reaches c.args.frames.now k (length (popped v.stack))) n (reaches_tabled g.H.Host.meaning q.0 q.1 q.2 q.3 q.4 q.5 q.6 c.args.frames.now v x rest c.in-BrTable.labels.now c.in-BrTable.last (c.in-BrTable.ensures rest) lt q.7) in
+    subst (λ y. Reaches c.args.frames.now c.label-depth.result (length y.stack)) (sym c.pop-in-BrTable.ensures.rest) reached
+
+pub returns-in_ok-frame-in-BrTable-clause-leads : goal.returns-in_ok-frame-in-BrTable-clause-leads
+returns-in_ok-frame-in-BrTable-clause-leads g c = λ program w free left last o d.
+    let q = c.requires in
+    let rest = expression_of c.args.rest.now in
+    let v = c.args.values.now in
+    let x = put c.args.instr.now rest in
+    let lt = takes g.H.Host.meaning q.0 q.1 q.2 q.3 q.4 q.5 q.6 c.args.frames.now v x rest _ _ (c.in-BrTable.ensures rest) refl q.7 in
+    let n : slice_index_or c.in-BrTable.labels.now (low (top v.stack)) c.in-BrTable.last ≡ c.label-depth.result =
+    ap (λ k. slice_index_or c.in-BrTable.labels.now k c.in-BrTable.last) (sym (c.low-in-BrTable.ensures ∙ ap low c.top-in-BrTable.ensures)) ∙ sym c.label-depth.ensures in
+    tabled g.H.Host.meaning program w free left last o d c.args.frames.now v x rest c.in-BrTable.labels.now c.in-BrTable.last (c.in-BrTable.ensures rest) lt
+    ∙ ap (λ k. under g.H.Host.meaning program free v.below c.args.frames.now (Branch k (state_of (record d { values = record { below = v.below; locals = v.locals; stack = popped v.stack } }) w left last o))) n
+    ∙ ap (λ y. under g.H.Host.meaning program free y.below c.args.frames.now (Branch c.label-depth.result (state_of (record d { values = y }) w left last o))) (sym c.pop-in-BrTable.ensures.rest)
+    ∙ c.land-in-BrTable.ensures.leads program w free left last o d
