@@ -1,6 +1,6 @@
 //! Control instructions that stay within their function (section 4.4.5), on its values and open bodies.
 ghost use Rattle.std.specs.Prelude.{◌≡◌, ℕ, suc, ◌+◌, ◌<◌, ◌==◌, if◌then◌else◌, List, Option, None, Some, length, drop, slice_get, slice_index_or, MatchOption};
-ghost use Rattle.ante_wtree.specs.Expressions.{put, expression_of};
+ghost use Rattle.ante_wtree.specs.Expressions.{put, put_shape, expression_of};
 ghost use Rattle.ante_wrun.specs.Meaning.{Outside, Program, Branch, acts, call};
 ghost use Rattle.ante_wrun.specs.Machine.{state_of, under, goes, Reaches, Nested};
 ghost use Rattle.ante_wrun.specs.Runs.{NotStuck};
@@ -136,27 +136,27 @@ fn chosen<'a>(test: u32, one: &'a [Instr], two: &'a [Instr]) -> &'a [Instr]
     if test == 0 { two } else { one }
 }
 
-/// Executes an instruction that begins a block or branches inside its function: the code that is next. None, with nothing
-/// done, for the others, and where memory is wanted.
+/// Begins a block, a loop or the chosen part of an `if`: the code that is next. None, with nothing done, for another
+/// instruction, and where memory is wanted.
 #[inline(always)]
-pub(crate) fn control_within<'a, H: Host>(
+pub(crate) fn begin_body<'a, H: Host>(
     values: &mut ValueStack,
     frames: &mut Stack<Frame<'a>>,
     alloc: Global,
-    instr: &'a Instr,
+    shape: Shape<'a>,
     rest: &'a [Instr],
 ) -> Option<&'a [Instr]>
     requires { (program : Program) × (w : H) × (free : ℕ) × (left : ℕ) × (last : ℕ) × (outside : Outside) × (d : Data) ×
-        NotStuck (under H.meaning program free values.old.below frames.old (acts program (call H.meaning program free) (put instr.now (expression_of rest.now)) (state_of (record d { values = values.old }) w left last outside))) }
+        NotStuck (under H.meaning program free values.old.below frames.old (acts program (call H.meaning program free) (put_shape shape (expression_of rest.now)) (state_of (record d { values = values.old }) w left last outside))) }
     ensures leads { (program : Program) (w : H) (free left last : ℕ) (outside : Outside) (d : Data) →
         BranchLeads H.meaning program free frames.new
-        (under H.meaning program free values.old.below frames.old (acts program (call H.meaning program free) (put instr.entry.now (expression_of rest.entry.now)) (state_of (record d { values = values.old }) w left last outside)))
+        (under H.meaning program free values.old.below frames.old (acts program (call H.meaning program free) (put_shape shape.entry (expression_of rest.entry.now)) (state_of (record d { values = values.old }) w left last outside)))
         result values.new (state_of (record d { values = values.new }) w left last outside) }
     ensures undone { result ≡ None → (values.new ≡ values.old) × (frames.new ≡ frames.old) }
     ensures below { values.new.below ≡ values.old.below }
     ensures nested { (below : ℕ) → Nested below frames.old → Nested below frames.new }
 {
-    match shape_of(instr) {
+    match shape {
         Shape::Block(kind, body) => {
             let height = values.height();
             match frames.push(alloc, Frame::Block { kind, height, rest }) {
@@ -181,6 +181,37 @@ pub(crate) fn control_within<'a, H: Host>(
                 Err(_) => None,
             }
         }
+        Shape::Plain(_)
+        | Shape::Br(_)
+        | Shape::BrIf(_)
+        | Shape::BrTable(..)
+        | Shape::Return
+        | Shape::Call(_)
+        | Shape::CallIndirect(_)
+        | Shape::MemoryGrow => None,
+    }
+}
+
+/// Branches to a label inside the function, or goes on where a condition is 0: the code that is next. None, with nothing
+/// done, for another instruction, and where the label is the function's own.
+#[inline(always)]
+fn branch_within<'a, H: Host>(
+    values: &mut ValueStack,
+    frames: &mut Stack<Frame<'a>>,
+    shape: Shape<'a>,
+    rest: &'a [Instr],
+) -> Option<&'a [Instr]>
+    requires { (program : Program) × (w : H) × (free : ℕ) × (left : ℕ) × (last : ℕ) × (outside : Outside) × (d : Data) ×
+        NotStuck (under H.meaning program free values.old.below frames.old (acts program (call H.meaning program free) (put_shape shape (expression_of rest.now)) (state_of (record d { values = values.old }) w left last outside))) }
+    ensures leads { (program : Program) (w : H) (free left last : ℕ) (outside : Outside) (d : Data) →
+        BranchLeads H.meaning program free frames.new
+        (under H.meaning program free values.old.below frames.old (acts program (call H.meaning program free) (put_shape shape.entry (expression_of rest.entry.now)) (state_of (record d { values = values.old }) w left last outside)))
+        result values.new (state_of (record d { values = values.new }) w left last outside) }
+    ensures undone { result ≡ None → (values.new ≡ values.old) × (frames.new ≡ frames.old) }
+    ensures below { values.new.below ≡ values.old.below }
+    ensures nested { (below : ℕ) → Nested below frames.old → Nested below frames.new }
+{
+    match shape {
         Shape::Br(depth) => {
             let frame = inner_label(frames, depth)?;
             Some(land::<H>(values, frames, depth, frame))
@@ -199,6 +230,45 @@ pub(crate) fn control_within<'a, H: Host>(
             let frame = inner_label(frames, depth)?;
             let _ = values.pop();
             Some(land::<H>(values, frames, depth, frame))
+        }
+        Shape::Plain(_)
+        | Shape::Block(..)
+        | Shape::Loop(..)
+        | Shape::If(..)
+        | Shape::Return
+        | Shape::Call(_)
+        | Shape::CallIndirect(_)
+        | Shape::MemoryGrow => None,
+    }
+}
+
+/// Executes a control instruction that stays within its function: the code that is next. None, with nothing done, for
+/// another one, and where memory is wanted.
+#[inline(always)]
+pub(crate) fn control_within<'a, H: Host>(
+    values: &mut ValueStack,
+    frames: &mut Stack<Frame<'a>>,
+    alloc: Global,
+    instr: &'a Instr,
+    rest: &'a [Instr],
+) -> Option<&'a [Instr]>
+    requires { (program : Program) × (w : H) × (free : ℕ) × (left : ℕ) × (last : ℕ) × (outside : Outside) × (d : Data) ×
+        NotStuck (under H.meaning program free values.old.below frames.old (acts program (call H.meaning program free) (put instr.now (expression_of rest.now)) (state_of (record d { values = values.old }) w left last outside))) }
+    ensures leads { (program : Program) (w : H) (free left last : ℕ) (outside : Outside) (d : Data) →
+        BranchLeads H.meaning program free frames.new
+        (under H.meaning program free values.old.below frames.old (acts program (call H.meaning program free) (put instr.entry.now (expression_of rest.entry.now)) (state_of (record d { values = values.old }) w left last outside)))
+        result values.new (state_of (record d { values = values.new }) w left last outside) }
+    ensures undone { result ≡ None → (values.new ≡ values.old) × (frames.new ≡ frames.old) }
+    ensures below { values.new.below ≡ values.old.below }
+    ensures nested { (below : ℕ) → Nested below frames.old → Nested below frames.new }
+{
+    let shape = shape_of(instr);
+    match shape {
+        Shape::Block(..) | Shape::Loop(..) | Shape::If(..) => {
+            begin_body::<H>(values, frames, alloc, shape, rest)
+        }
+        Shape::Br(_) | Shape::BrIf(_) | Shape::BrTable(..) => {
+            branch_within::<H>(values, frames, shape, rest)
         }
         Shape::Plain(_)
         | Shape::Return

@@ -1,13 +1,13 @@
 //! What one instruction does to a thread (section 4.4.5).
 ghost use Rattle.std.specs.Prelude.{◌≡◌, ℕ, ◌<◌, ◌≤◌, ◌&&◌, ◌==◌, if◌then◌else◌, List, Option, None, Some, map, length, IfOk, slice_get};
-ghost use Rattle.ante_wtree.specs.Expressions.{put, expression_of};
+ghost use Rattle.ante_wtree.specs.Expressions.{put, put_shape, expression_of};
 ghost use Rattle.ante_wrun.specs.Effects.{low, top, popped};
 ghost use Rattle.ante_wrun.specs.Meaning.{Outside, Program, result_of, same_kind, same_kinds, is_of, element, on_stack, stack_of, grow, target, acts, call};
 ghost use Rattle.ante_wrun.specs.Machine.{state_of, whole, going, after, IsNested};
 ghost use Rattle.ante_wrun.specs.Control.{instance_of, program_of, own_at, Leads, NotHostCall, GivenAt, Takes, Leaves};
 ghost use Rattle.ante_wrun.specs.Runs.{NotStuck};
 
-use crate::blocks::{Frame, control_within, label};
+use crate::blocks::{Frame, begin_body, label};
 use crate::data::low;
 use crate::ends::TrapKind;
 use crate::plain::{Tried, plain_with_room};
@@ -239,24 +239,24 @@ fn grow<'a, H: Host>(
     Ok(Next::Go)
 }
 
-/// Begins a block, a loop or the chosen part of an `if`. Another instruction isn't done here.
+/// Begins a block, a loop or the chosen part of an `if`. No other instruction is done here.
 #[inline(never)]
 fn begin<'a, H: Host>(
     thread: &mut Thread<'a>,
     alloc: Global,
-    instr: &'a Instr,
+    shape: Shape<'a>,
 ) -> Result<Next<'a>, AllocError>
     requires sound { (program : Program) × (w : H) × (left : ℕ) × (last : ℕ) × (outside : Outside) ×
-        NotStuck (whole H.meaning program thread.old (acts program (call H.meaning program thread.old.free) (put instr.now (expression_of thread.old.code.now)) (state_of thread.old.state w left last outside))) }
+        NotStuck (whole H.meaning program thread.old (acts program (call H.meaning program thread.old.free) (put_shape shape (expression_of thread.old.code.now)) (state_of thread.old.state w left last outside))) }
     requires nested { IsNested thread.old }
     ensures nested { IfOk result (λ next. IsNested thread.new) }
     ensures leads { IfOk result (λ next. (program : Program) (w : H) (left last : ℕ) (outside : Outside) →
         Leads H.meaning program
-        (whole H.meaning program thread.old (acts program (call H.meaning program thread.old.free) (put instr.entry.now (expression_of thread.old.code.now)) (state_of thread.old.state w left last outside)))
+        (whole H.meaning program thread.old (acts program (call H.meaning program thread.old.free) (put_shape shape.entry (expression_of thread.old.code.now)) (state_of thread.old.state w left last outside)))
         next thread.new w left last outside) }
 {
     let values = &mut thread.state.values;
-    match control_within::<H>(values, &mut thread.frames, alloc, instr, thread.code) {
+    match begin_body::<H>(values, &mut thread.frames, alloc, shape, thread.code) {
         Some(code) => {
             thread.code = code;
             Ok(Next::Go)
@@ -285,13 +285,14 @@ pub(crate) fn act<'a, H: Host>(
         (whole H.meaning program thread.old (acts program (call H.meaning program thread.old.free) (put instr.entry.now (expression_of thread.old.code.now)) (state_of thread.old.state w left.old last outside)))
         next thread.new w left.new last outside) }
 {
-    match shape_of(instr) {
+    let shape = shape_of(instr);
+    match shape {
         Shape::Plain(_) => match plain_with_room(&mut thread.state, alloc, instr) {
             Tried::Done => Ok(Next::Go),
             Tried::Trap(kind) => Ok(Next::Trap(kind)),
             Tried::Untouched => Err(AllocError),
         },
-        Shape::Block(..) | Shape::Loop(..) | Shape::If(..) => begin::<H>(thread, alloc, instr),
+        Shape::Block(..) | Shape::Loop(..) | Shape::If(..) => begin::<H>(thread, alloc, shape),
         Shape::Br(depth) => {
             branch::<H>(thread, depth);
             Ok(Next::Go)

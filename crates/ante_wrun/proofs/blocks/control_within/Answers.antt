@@ -1,187 +1,33 @@
-use Rattle.std.proofs.Common.{◌≡◌, ◌∷◌, ◌-◌, false, length, refl, sym, ap, subst, ◌∙◌, arith}
-use Rattle.std.specs.Prelude.{◌==◌, slice_index_or}
-use Rattle.std.proofs.lemmas.Bool.{eqb-true}
-use Rattle.ante_wtree.specs.Expressions.{put, expression_of}
-use Rattle.ante_wrun.specs.declared.blocks.Frame.TheVariants as frame
-use Rattle.ante_wrun.specs.Effects.{low, top, popped}
-use Rattle.ante_wrun.specs.Meaning.{Branch, acts, does, call}
-use Rattle.ante_wrun.specs.Machine.{state_of, under, goes, Reaches}
-use Rattle.ante_wrun.proofs.Bodies.{again}
-use Rattle.ante_wrun.proofs.Calls.{conditional}
-use Rattle.ante_wrun.proofs.Rules.{If_is}
-use Rattle.ante_wrun.proofs.Landing.{takes, reaches_by, goes_on, taken, reaches_if, tabled, reaches_tabled, length_popped}
+use Rattle.std.proofs.Common.{sym, subst}
+use Rattle.ante_wtree.specs.Expressions.{expression_of}
+use Rattle.ante_wrun.specs.Meaning.{acts, call}
+use Rattle.ante_wrun.specs.Machine.{state_of, under}
+use Rattle.ante_wrun.specs.Runs.{NotStuck}
+use Rattle.ante_wrun.specs.Stretches.{BranchLeads}
 use Rattle.ante_wrun.proofs.blocks.control_within.Goals as goal
 
-pub overflow_sub-height : goal.overflow_sub-height
-overflow_sub-height g c =
+pub begin_body-requires : goal.begin_body-requires
+begin_body-requires g c =
     let q = c.requires in
-    let rest = expression_of c.args.rest.now in
-    let lt = takes g.H.Host.meaning q.0 q.1 q.2 q.3 q.4 q.5 q.6 c.args.frames.now c.args.values.now (put c.args.instr.now rest) rest _ _ (c.in-If.ensures rest) refl q.7 in
-    omega (arith, lt, c.height-height-in-If.ensures)
-
-pub pop-requires : goal.pop-requires
-pop-requires g c =
-    let q = c.requires in
-    let rest = expression_of c.args.rest.now in
-    takes g.H.Host.meaning q.0 q.1 q.2 q.3 q.4 q.5 q.6 c.args.frames.now c.args.values.now (put c.args.instr.now rest) rest _ _ (c.in-If.ensures rest) refl q.7
-
-pub inner_label-requires : goal.inner_label-requires
-inner_label-requires g c =
-    let q = c.requires in
-    let rest = expression_of c.args.rest.now in
-    (length c.args.values.now.stack, reaches_by g.H.Host.meaning q.0 q.1 q.2 q.3 q.4 q.5 q.6 c.args.frames.now c.args.values.now (put c.args.instr.now rest) rest c.in-Br.depth (c.in-Br.ensures rest) q.7)
-
-pub land-requires-clause-reaches : goal.land-requires-clause-reaches
-land-requires-clause-reaches g c =
-    let q = c.requires in
-    let rest = expression_of c.args.rest.now in
-    reaches_by g.H.Host.meaning q.0 q.1 q.2 q.3 q.4 q.5 q.6 c.args.frames.now c.args.values.now (put c.args.instr.now rest) rest c.in-Br.depth (c.in-Br.ensures rest) q.7
-
-pub top-requires : goal.top-requires
-top-requires g c =
-    let q = c.requires in
-    let rest = expression_of c.args.rest.now in
-    takes g.H.Host.meaning q.0 q.1 q.2 q.3 q.4 q.5 q.6 c.args.frames.now c.args.values.now (put c.args.instr.now rest) rest _ _ (c.in-BrIf.ensures rest) refl q.7
-
-pub pop-requires-then-low-eq0 : goal.pop-requires-then-low-eq0
-pop-requires-then-low-eq0 g c =
-    let q = c.requires in
-    let rest = expression_of c.args.rest.now in
-    takes g.H.Host.meaning q.0 q.1 q.2 q.3 q.4 q.5 q.6 c.args.frames.now c.args.values.now (put c.args.instr.now rest) rest _ _ (c.in-BrIf.ensures rest) refl q.7
-
-pub returns-then-low-eq0-clause-leads : goal.returns-then-low-eq0-clause-leads
-returns-then-low-eq0-clause-leads g c = λ program w free left last o d.
-    let q = c.requires in
-    let rest = expression_of c.args.rest.now in
     let v = c.args.values.now in
-    let x = put c.args.instr.now rest in
-    let lt = takes g.H.Host.meaning q.0 q.1 q.2 q.3 q.4 q.5 q.6 c.args.frames.now v x rest _ _ (c.in-BrIf.ensures rest) refl q.7 in
-    let n : low (top v.stack) ≡ c.low.result = sym (c.low.ensures ∙ ap low c.top.ensures) in
-    goes_on g.H.Host.meaning program w free left last o d c.args.frames.now v x rest c.in-BrIf.depth c.pop-then-low-eq0.new.self (c.in-BrIf.ensures rest) lt (ap (λ k. k == 0) (n ∙ c.if-low-eq0.true)) c.pop-then-low-eq0.ensures.rest
+    (q.0, q.1, q.2, q.3, q.4, q.5, q.6, subst (λ x. NotStuck (under g.H.Host.meaning q.0 q.2 v.below c.args.frames.now (acts q.0 (call g.H.Host.meaning q.0 q.2) x (state_of (record q.6 { values = v }) q.1 q.3 q.4 q.5)))) (c.shape_of-shape.ensures (expression_of c.args.rest.now)) q.7)
 
-pub inner_label-requires-in-BrIf : goal.inner_label-requires-in-BrIf
-inner_label-requires-in-BrIf g c =
+pub branch_within-requires : goal.branch_within-requires
+branch_within-requires g c =
     let q = c.requires in
-    let rest = expression_of c.args.rest.now in
     let v = c.args.values.now in
-    let x = put c.args.instr.now rest in
-    let lt = takes g.H.Host.meaning q.0 q.1 q.2 q.3 q.4 q.5 q.6 c.args.frames.now v x rest _ _ (c.in-BrIf.ensures rest) refl q.7 in
-    let n : low (top v.stack) ≡ c.low.result = sym (c.low.ensures ∙ ap low c.top.ensures) in
-    let z : (low (top v.stack) == 0) ≡ false = ap (λ k. k == 0) n ∙ grind (arith, eqb-true, c.if-low-eq0.false) in
-    (length (popped v.stack), reaches_if g.H.Host.meaning q.0 q.1 q.2 q.3 q.4 q.5 q.6 c.args.frames.now v x rest c.in-BrIf.depth (c.in-BrIf.ensures rest) lt z q.7)
+    (q.0, q.1, q.2, q.3, q.4, q.5, q.6, subst (λ x. NotStuck (under g.H.Host.meaning q.0 q.2 v.below c.args.frames.now (acts q.0 (call g.H.Host.meaning q.0 q.2) x (state_of (record q.6 { values = v }) q.1 q.3 q.4 q.5)))) (c.shape_of-shape.ensures (expression_of c.args.rest.now)) q.7)
 
-pub pop-requires-in-BrIf : goal.pop-requires-in-BrIf
-pop-requires-in-BrIf g c =
-    let q = c.requires in
-    let rest = expression_of c.args.rest.now in
-    takes g.H.Host.meaning q.0 q.1 q.2 q.3 q.4 q.5 q.6 c.args.frames.now c.args.values.now (put c.args.instr.now rest) rest _ _ (c.in-BrIf.ensures rest) refl q.7
-
-pub land-requires-in-BrIf-clause-reaches : goal.land-requires-in-BrIf-clause-reaches
-land-requires-in-BrIf-clause-reaches g c =
-    let q = c.requires in
-    let rest = expression_of c.args.rest.now in
+pub returns-in-Block-clause-leads : goal.returns-in-Block-clause-leads
+returns-in-Block-clause-leads g c = λ program w free left last o d.
     let v = c.args.values.now in
-    let x = put c.args.instr.now rest in
-    let lt = takes g.H.Host.meaning q.0 q.1 q.2 q.3 q.4 q.5 q.6 c.args.frames.now v x rest _ _ (c.in-BrIf.ensures rest) refl q.7 in
-    let n : low (top v.stack) ≡ c.low.result = sym (c.low.ensures ∙ ap low c.top.ensures) in
-    let z : (low (top v.stack) == 0) ≡ false = ap (λ k. k == 0) n ∙ grind (arith, eqb-true, c.if-low-eq0.false) in
-    subst (λ y. Reaches c.args.frames.now c.in-BrIf.depth (length y.stack)) (sym c.pop-in-BrIf.ensures.rest)
-    (reaches_if g.H.Host.meaning q.0 q.1 q.2 q.3 q.4 q.5 q.6 c.args.frames.now v x rest c.in-BrIf.depth (c.in-BrIf.ensures rest) lt z q.7)
+    subst (λ x. BranchLeads g.H.Host.meaning program free c.begin_body.new.frames (under g.H.Host.meaning program free v.below c.args.frames.now (acts program (call g.H.Host.meaning program free) x (state_of (record d { values = v }) w left last o)))
+    c.begin_body.result c.begin_body.new.values (state_of (record d { values = c.begin_body.new.values }) w left last o))
+    (sym (c.shape_of-shape.ensures (expression_of c.args.rest.now))) (c.begin_body.ensures.leads program w free left last o d)
 
-pub returns-in_ok-frame-in-BrIf-clause-leads : goal.returns-in_ok-frame-in-BrIf-clause-leads
-returns-in_ok-frame-in-BrIf-clause-leads g c = λ program w free left last o d.
-    let q = c.requires in
-    let rest = expression_of c.args.rest.now in
+pub returns-in-Br-clause-leads : goal.returns-in-Br-clause-leads
+returns-in-Br-clause-leads g c = λ program w free left last o d.
     let v = c.args.values.now in
-    let x = put c.args.instr.now rest in
-    let lt = takes g.H.Host.meaning q.0 q.1 q.2 q.3 q.4 q.5 q.6 c.args.frames.now v x rest _ _ (c.in-BrIf.ensures rest) refl q.7 in
-    let n : low (top v.stack) ≡ c.low.result = sym (c.low.ensures ∙ ap low c.top.ensures) in
-    let z : (low (top v.stack) == 0) ≡ false = ap (λ k. k == 0) n ∙ grind (arith, eqb-true, c.if-low-eq0.false) in
-    taken g.H.Host.meaning program w free left last o d c.args.frames.now v x rest c.in-BrIf.depth (c.in-BrIf.ensures rest) lt z
-    ∙ ap (λ y. under g.H.Host.meaning program free y.below c.args.frames.now (Branch c.in-BrIf.depth (state_of (record d { values = y }) w left last o))) (sym c.pop-in-BrIf.ensures.rest)
-    ∙ c.land-in-BrIf.ensures.leads program w free left last o d
-
--- a loop
-pub returns-in-Ok-push-clause-leads : goal.returns-in-Ok-push-clause-leads
-returns-in-Ok-push-clause-leads g c = λ program w free left last o d.
-    let v = c.args.values.now in
-    let fs = c.args.frames.now in
-    let s = state_of (record d { values = v }) w left last o in
-    let body = c.in-Loop.body in
-    ap (λ x. under g.H.Host.meaning program free v.below fs (acts program (call g.H.Host.meaning program free) x s)) (c.in-Loop.ensures (expression_of c.args.rest.now))
-    ∙ again g.H.Host.meaning program w left last o g.met.H.Host.falls free v.below fs (length v.stack) body c.args.rest s
-    ∙ ap (λ h. under g.H.Host.meaning program free v.below (frame.Loop h body c.args.rest ∷ fs) (does program (call g.H.Host.meaning program free) (expression_of body.now) s)) (sym c.height-height-in-Loop.ensures)
-    ∙ ap (λ x. goes g.H.Host.meaning program free x body.now v s) (sym c.in-Ok-push.ensures.ok)
-
--- an `if`
-pub returns-in-Ok-push-2-clause-leads : goal.returns-in-Ok-push-2-clause-leads
-returns-in-Ok-push-2-clause-leads g c = λ program w free left last o d.
-    let q = c.requires in
-    let rest = expression_of c.args.rest.now in
-    let v = c.args.values.now in
-    let fs = c.args.frames.now in
-    let s = state_of (record d { values = v }) w left last o in
-    let lt = takes g.H.Host.meaning q.0 q.1 q.2 q.3 q.4 q.5 q.6 fs v (put c.args.instr.now rest) rest _ _ (c.in-If.ensures rest) refl q.7 in
-    let n : low (top v.stack) ≡ c.low-test.result = sym (c.low-test.ensures ∙ ap low c.pop.ensures.value) in
-    let height : c.height-height-in-If.result - 1 ≡ length c.pop.new.self.stack = ap (λ k. k - 1) c.height-height-in-If.ensures ∙ length_popped v.stack lt ∙ ap (λ y. length y.stack) (sym c.pop.ensures.rest) in
-    ap (λ x. under g.H.Host.meaning program free v.below fs (acts program (call g.H.Host.meaning program free) x s)) (c.in-If.ensures rest)
-    ∙ ap (under g.H.Host.meaning program free v.below fs) (If_is program (call g.H.Host.meaning program free) s lt c.in-If.kind (expression_of c.in-If.one.now) (expression_of c.in-If.two.now) rest)
-    ∙ conditional g.H.Host.meaning program w left last o free fs c.push-in-If.new.self (record d { values = v }) c.in-If.kind (c.height-height-in-If.result - 1) c.args.rest c.in-If.one c.in-If.two c.chosen.result
-    (low (top v.stack) == 0) (c.low-test.result == 0) c.pop.new.self (ap (λ k. k == 0) n) c.chosen.ensures c.pop.ensures.rest height c.in-Ok-push-2.ensures.ok
-
--- a table of labels
-pub top-requires-in-BrTable : goal.top-requires-in-BrTable
-top-requires-in-BrTable g c =
-    let q = c.requires in
-    let rest = expression_of c.args.rest.now in
-    let v = c.args.values.now in
-    let x = put c.args.instr.now rest in
-    let lt = takes g.H.Host.meaning q.0 q.1 q.2 q.3 q.4 q.5 q.6 c.args.frames.now v x rest _ _ (c.in-BrTable.ensures rest) refl q.7 in
-    lt
-
-pub pop-requires-in-BrTable : goal.pop-requires-in-BrTable
-pop-requires-in-BrTable g c =
-    let q = c.requires in
-    let rest = expression_of c.args.rest.now in
-    let v = c.args.values.now in
-    let x = put c.args.instr.now rest in
-    let lt = takes g.H.Host.meaning q.0 q.1 q.2 q.3 q.4 q.5 q.6 c.args.frames.now v x rest _ _ (c.in-BrTable.ensures rest) refl q.7 in
-    lt
-
-pub inner_label-requires-in-BrTable : goal.inner_label-requires-in-BrTable
-inner_label-requires-in-BrTable g c =
-    let q = c.requires in
-    let rest = expression_of c.args.rest.now in
-    let v = c.args.values.now in
-    let x = put c.args.instr.now rest in
-    let lt = takes g.H.Host.meaning q.0 q.1 q.2 q.3 q.4 q.5 q.6 c.args.frames.now v x rest _ _ (c.in-BrTable.ensures rest) refl q.7 in
-    let n : slice_index_or c.in-BrTable.labels.now (low (top v.stack)) c.in-BrTable.last ≡ c.label-depth.result =
-    ap (λ k. slice_index_or c.in-BrTable.labels.now k c.in-BrTable.last) (sym (c.low-in-BrTable.ensures ∙ ap low c.top-in-BrTable.ensures)) ∙ sym c.label-depth.ensures in
-    let reached = subst (λ k. Reaches c.args.frames.now k (length (popped v.stack))) n (reaches_tabled g.H.Host.meaning q.0 q.1 q.2 q.3 q.4 q.5 q.6 c.args.frames.now v x rest c.in-BrTable.labels.now c.in-BrTable.last (c.in-BrTable.ensures rest) lt q.7) in
-    (length (popped v.stack), reached)
-
-pub land-requires-in-BrTable-clause-reaches : goal.land-requires-in-BrTable-clause-reaches
-land-requires-in-BrTable-clause-reaches g c =
-    let q = c.requires in
-    let rest = expression_of c.args.rest.now in
-    let v = c.args.values.now in
-    let x = put c.args.instr.now rest in
-    let lt = takes g.H.Host.meaning q.0 q.1 q.2 q.3 q.4 q.5 q.6 c.args.frames.now v x rest _ _ (c.in-BrTable.ensures rest) refl q.7 in
-    let n : slice_index_or c.in-BrTable.labels.now (low (top v.stack)) c.in-BrTable.last ≡ c.label-depth.result =
-    ap (λ k. slice_index_or c.in-BrTable.labels.now k c.in-BrTable.last) (sym (c.low-in-BrTable.ensures ∙ ap low c.top-in-BrTable.ensures)) ∙ sym c.label-depth.ensures in
-    let reached = subst (λ k. Reaches c.args.frames.now k (length (popped v.stack))) n (reaches_tabled g.H.Host.meaning q.0 q.1 q.2 q.3 q.4 q.5 q.6 c.args.frames.now v x rest c.in-BrTable.labels.now c.in-BrTable.last (c.in-BrTable.ensures rest) lt q.7) in
-    subst (λ y. Reaches c.args.frames.now c.label-depth.result (length y.stack)) (sym c.pop-in-BrTable.ensures.rest) reached
-
-pub returns-in_ok-frame-in-BrTable-clause-leads : goal.returns-in_ok-frame-in-BrTable-clause-leads
-returns-in_ok-frame-in-BrTable-clause-leads g c = λ program w free left last o d.
-    let q = c.requires in
-    let rest = expression_of c.args.rest.now in
-    let v = c.args.values.now in
-    let x = put c.args.instr.now rest in
-    let lt = takes g.H.Host.meaning q.0 q.1 q.2 q.3 q.4 q.5 q.6 c.args.frames.now v x rest _ _ (c.in-BrTable.ensures rest) refl q.7 in
-    let n : slice_index_or c.in-BrTable.labels.now (low (top v.stack)) c.in-BrTable.last ≡ c.label-depth.result =
-    ap (λ k. slice_index_or c.in-BrTable.labels.now k c.in-BrTable.last) (sym (c.low-in-BrTable.ensures ∙ ap low c.top-in-BrTable.ensures)) ∙ sym c.label-depth.ensures in
-    tabled g.H.Host.meaning program w free left last o d c.args.frames.now v x rest c.in-BrTable.labels.now c.in-BrTable.last (c.in-BrTable.ensures rest) lt
-    ∙ ap (λ k. under g.H.Host.meaning program free v.below c.args.frames.now (Branch k (state_of (record d { values = record { below = v.below; locals = v.locals; stack = popped v.stack } }) w left last o))) n
-    ∙ ap (λ y. under g.H.Host.meaning program free y.below c.args.frames.now (Branch c.label-depth.result (state_of (record d { values = y }) w left last o))) (sym c.pop-in-BrTable.ensures.rest)
-    ∙ c.land-in-BrTable.ensures.leads program w free left last o d
+    subst (λ x. BranchLeads g.H.Host.meaning program free c.branch_within.new.frames (under g.H.Host.meaning program free v.below c.args.frames.now (acts program (call g.H.Host.meaning program free) x (state_of (record d { values = v }) w left last o)))
+    c.branch_within.result c.branch_within.new.values (state_of (record d { values = c.branch_within.new.values }) w left last o))
+    (sym (c.shape_of-shape.ensures (expression_of c.args.rest.now))) (c.branch_within.ensures.leads program w free left last o d)

@@ -46,8 +46,23 @@ returns-in-Trap-clause-leads g c = λ w last outside.
       refl,
     )
 
+pub begin-requires-clause-sound : goal.begin-requires-clause-sound
+begin-requires-clause-sound g c =
+    let P = program_of c.args.functions.now in
+    let t = c.args.thread.now in
+    let q = c.requires.sound in
+    (P, q.0, c.args.left.now, q.1, q.2, begins g.H.Host.meaning P t _ _ (state_of t.state q.0 c.args.left.now q.1 q.2) (c.shape_of-shape.ensures (expression_of t.code.now)) q.3)
+
 pub returns-in-Block-clause-leads : goal.returns-in-Block-clause-leads
-returns-in-Block-clause-leads g c = if_ok c.begin.result _ _ (λ next h w last outside. h (program_of c.args.functions.now) w c.args.left.now last outside) c.begin.ensures.leads
+returns-in-Block-clause-leads g c =
+    let P = program_of c.args.functions.now in
+    let t = c.args.thread.now in
+    if_ok c.begin.result _ _
+    (λ next h w last outside.
+    subst (λ o. Leads g.H.Host.meaning P o next c.begin.new.thread w c.args.left.now last outside)
+    (sym (ap (λ x. whole g.H.Host.meaning P t (acts P (call g.H.Host.meaning P t.free) x (state_of t.state w c.args.left.now last outside))) (c.shape_of-shape.ensures (expression_of t.code.now))))
+    (h P w c.args.left.now last outside))
+    c.begin.ensures.leads
 
 pub returns-else-low-eq0-clause-leads : goal.returns-else-low-eq0-clause-leads
 returns-else-low-eq0-clause-leads g c = λ w last outside.

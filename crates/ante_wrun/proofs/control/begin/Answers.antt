@@ -1,7 +1,7 @@
 use Rattle.ante_wrun.proofs.control.begin.Goals as goal
 
-pub control_within-requires : goal.control_within-requires
-control_within-requires g c =
+pub begin_body-requires : goal.begin_body-requires
+begin_body-requires g c =
     let q = c.requires.sound in
     let t = c.args.thread.now in
     (q.0, q.1, t.free, q.2, q.3, q.4, t.state, q.5)
