@@ -4,6 +4,8 @@ use denote.Bor.{Bor}
 use Rattle.ante_wmem.specs.Linear.{LinearMemory}
 use Rattle.ante_wmem.specs.HostCalls.{HostMeaning}
 use Rattle.ante_wtree.specs.declared.instructions.Instr.{Instr}
+use Rattle.ante_wtree.specs.Expressions.{Expression}
+use Rattle.ante_wrun.specs.declared.data.Data.{Data}
 use Rattle.ante_wrun.specs.declared.ends.TrapKind.{TrapKind}
 use Rattle.ante_wrun.specs.declared.ends.RunEnd.TheVariants as end
 use Rattle.ante_wrun.specs.declared.blocks.Frame.{Frame}
@@ -11,11 +13,11 @@ use Rattle.ante_wrun.specs.declared.blocks.Frame.TheVariants as frame
 use Rattle.ante_wrun.specs.declared.thread.Thread.{Thread}
 use Rattle.ante_wrun.specs.declared.stretch.Moved.{Moved}
 use Rattle.ante_wrun.specs.declared.stretch.Moved.TheVariants as moved
-use Rattle.ante_wrun.specs.Meaning.{Outside, Program, State, Outcome}
+use Rattle.ante_wrun.specs.Meaning.{Outside, Program, State, Outcome, acts, call}
 use Rattle.ante_wrun.specs.Frames.{FrameValues}
-use Rattle.ante_wrun.specs.Machine.{values_in, state_of, goes, going}
+use Rattle.ante_wrun.specs.Machine.{values_in, state_of, under, goes, going}
 use Rattle.ante_wrun.specs.Control.{Stops}
-use Rattle.ante_wrun.specs.Runs.{Event, Supplied}
+use Rattle.ante_wrun.specs.Runs.{Event, Supplied, NotStuck}
 
 -- the state of these parts, where the instruction executed last took one step
 abbrev pub stepping : {W : Type 0} → FrameValues → (globals : List ℕ) → LinearMemory → W → (left : ℕ) → Outside → State W
@@ -67,3 +69,16 @@ module _ {W R : Type 0} (host : HostMeaning W R) (program : Program) where
   abbrev pub StretchLeads : Outcome W R → Option TrapKind → Thread → W → (left last : ℕ) → Outside → Type 0
   StretchLeads o None t w left last outside = o ≡ going host program t (state_of t.state w left last outside)
   StretchLeads o (Some kind) t w left last outside = Stops (end.Trap kind) w left outside o
+
+-- ---- an instruction that stays within its function
+
+-- a rule applies to what the code begins with: some run that goes on from here isn't stuck
+abbrev pub HasRule : {W R : Type 0} → HostMeaning W R → Expression → FrameValues → List Frame → Type 0
+HasRule {W} host code v frames = (program : Program) × (w : W) × (free : ℕ) × (left : ℕ) × (last : ℕ) × (outside : Outside) × (d : Data) ×
+    NotStuck (under host program free v.below frames (acts program (call host program free) code (state_of (record d { values = v }) w left last outside)))
+
+-- it leads from these values and open bodies to those, and to the code that is next; or it isn't done
+abbrev pub Within : {W R : Type 0} → HostMeaning W R → Expression → FrameValues → List Frame → Option (Bor (List Instr)) → FrameValues → List Frame → Type 0
+Within {W} host code v frames next v' frames' = (program : Program) (w : W) (free left last : ℕ) (outside : Outside) (d : Data) →
+    BranchLeads host program free frames' (under host program free v.below frames (acts program (call host program free) code (state_of (record d { values = v }) w left last outside)))
+    next v' (state_of (record d { values = v' }) w left last outside)

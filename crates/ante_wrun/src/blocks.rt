@@ -4,7 +4,7 @@ ghost use Rattle.ante_wtree.specs.Expressions.{put, put_shape, expression_of};
 ghost use Rattle.ante_wrun.specs.Meaning.{Outside, Program, Branch, acts, call};
 ghost use Rattle.ante_wrun.specs.Machine.{state_of, under, goes, Reaches, Nested};
 ghost use Rattle.ante_wrun.specs.Runs.{NotStuck};
-ghost use Rattle.ante_wrun.specs.Stretches.{SameFrom, IsInner, IsOwnLabel, BranchLeads};
+ghost use Rattle.ante_wrun.specs.Stretches.{SameFrom, IsInner, IsOwnLabel, HasRule, Within};
 
 use crate::data::{Data, low};
 use crate::values::ValueStack;
@@ -146,12 +146,8 @@ pub(crate) fn begin_body<'a, H: Host>(
     shape: Shape<'a>,
     rest: &'a [Instr],
 ) -> Option<&'a [Instr]>
-    requires { (program : Program) × (w : H) × (free : ℕ) × (left : ℕ) × (last : ℕ) × (outside : Outside) × (d : Data) ×
-        NotStuck (under H.meaning program free values.old.below frames.old (acts program (call H.meaning program free) (put_shape shape (expression_of rest.now)) (state_of (record d { values = values.old }) w left last outside))) }
-    ensures leads { (program : Program) (w : H) (free left last : ℕ) (outside : Outside) (d : Data) →
-        BranchLeads H.meaning program free frames.new
-        (under H.meaning program free values.old.below frames.old (acts program (call H.meaning program free) (put_shape shape.entry (expression_of rest.entry.now)) (state_of (record d { values = values.old }) w left last outside)))
-        result values.new (state_of (record d { values = values.new }) w left last outside) }
+    requires { HasRule H.meaning (put_shape shape (expression_of rest.now)) values.old frames.old }
+    ensures leads { Within H.meaning (put_shape shape.entry (expression_of rest.entry.now)) values.old frames.old result values.new frames.new }
     ensures undone { result ≡ None → (values.new ≡ values.old) × (frames.new ≡ frames.old) }
     ensures below { values.new.below ≡ values.old.below }
     ensures nested { (below : ℕ) → Nested below frames.old → Nested below frames.new }
@@ -201,12 +197,8 @@ fn branch_within<'a, H: Host>(
     shape: Shape<'a>,
     rest: &'a [Instr],
 ) -> Option<&'a [Instr]>
-    requires { (program : Program) × (w : H) × (free : ℕ) × (left : ℕ) × (last : ℕ) × (outside : Outside) × (d : Data) ×
-        NotStuck (under H.meaning program free values.old.below frames.old (acts program (call H.meaning program free) (put_shape shape (expression_of rest.now)) (state_of (record d { values = values.old }) w left last outside))) }
-    ensures leads { (program : Program) (w : H) (free left last : ℕ) (outside : Outside) (d : Data) →
-        BranchLeads H.meaning program free frames.new
-        (under H.meaning program free values.old.below frames.old (acts program (call H.meaning program free) (put_shape shape.entry (expression_of rest.entry.now)) (state_of (record d { values = values.old }) w left last outside)))
-        result values.new (state_of (record d { values = values.new }) w left last outside) }
+    requires { HasRule H.meaning (put_shape shape (expression_of rest.now)) values.old frames.old }
+    ensures leads { Within H.meaning (put_shape shape.entry (expression_of rest.entry.now)) values.old frames.old result values.new frames.new }
     ensures undone { result ≡ None → (values.new ≡ values.old) × (frames.new ≡ frames.old) }
     ensures below { values.new.below ≡ values.old.below }
     ensures nested { (below : ℕ) → Nested below frames.old → Nested below frames.new }
@@ -252,12 +244,8 @@ pub(crate) fn control_within<'a, H: Host>(
     instr: &'a Instr,
     rest: &'a [Instr],
 ) -> Option<&'a [Instr]>
-    requires { (program : Program) × (w : H) × (free : ℕ) × (left : ℕ) × (last : ℕ) × (outside : Outside) × (d : Data) ×
-        NotStuck (under H.meaning program free values.old.below frames.old (acts program (call H.meaning program free) (put instr.now (expression_of rest.now)) (state_of (record d { values = values.old }) w left last outside))) }
-    ensures leads { (program : Program) (w : H) (free left last : ℕ) (outside : Outside) (d : Data) →
-        BranchLeads H.meaning program free frames.new
-        (under H.meaning program free values.old.below frames.old (acts program (call H.meaning program free) (put instr.entry.now (expression_of rest.entry.now)) (state_of (record d { values = values.old }) w left last outside)))
-        result values.new (state_of (record d { values = values.new }) w left last outside) }
+    requires { HasRule H.meaning (put instr.now (expression_of rest.now)) values.old frames.old }
+    ensures leads { Within H.meaning (put instr.entry.now (expression_of rest.entry.now)) values.old frames.old result values.new frames.new }
     ensures undone { result ≡ None → (values.new ≡ values.old) × (frames.new ≡ frames.old) }
     ensures below { values.new.below ≡ values.old.below }
     ensures nested { (below : ℕ) → Nested below frames.old → Nested below frames.new }
