@@ -1,9 +1,8 @@
 //! Control instructions that stay within their function (section 4.4.5), on its values and open bodies.
-ghost use Rattle.std.specs.Prelude.{◌≡◌, ℕ, suc, ◌+◌, ◌<◌, ◌==◌, if◌then◌else◌, List, Option, None, Some, length, drop, slice_get, slice_index_or, MatchOption};
+ghost use Rattle.std.specs.Prelude.{◌≡◌, ℕ, ◌==◌, if◌then◌else◌, None, Some, length, drop, slice_get, slice_index_or, MatchOption};
 ghost use Rattle.ante_wtree.specs.Expressions.{put, put_shape, expression_of};
-ghost use Rattle.ante_wrun.specs.Meaning.{Outside, Program, Branch, acts, call};
+ghost use Rattle.ante_wrun.specs.Meaning.{Outside, Program, Branch};
 ghost use Rattle.ante_wrun.specs.Machine.{state_of, under, goes, Reaches, Nested};
-ghost use Rattle.ante_wrun.specs.Runs.{NotStuck};
 ghost use Rattle.ante_wrun.specs.Stretches.{SameFrom, IsInner, IsOwnLabel, HasRule, Within};
 
 use crate::data::{Data, low};

@@ -1,9 +1,9 @@
 //! What one instruction does to a thread (section 4.4.5).
-ghost use Rattle.std.specs.Prelude.{◌≡◌, ℕ, ◌<◌, ◌≤◌, ◌&&◌, ◌==◌, if◌then◌else◌, List, Option, None, Some, map, length, IfOk, slice_get};
+ghost use Rattle.std.specs.Prelude.{◌≡◌, ℕ, ◌<◌, ◌≤◌, ◌&&◌, None, Some, length, IfOk, slice_get};
 ghost use Rattle.ante_wtree.specs.Expressions.{put, put_shape, expression_of};
 ghost use Rattle.ante_wrun.specs.Effects.{low, top, popped};
 ghost use Rattle.ante_wrun.specs.Meaning.{Outside, Program, result_of, same_kind, same_kinds, is_of, element, on_stack, stack_of, grow, target, acts, call};
-ghost use Rattle.ante_wrun.specs.Machine.{state_of, whole, going, after, IsNested};
+ghost use Rattle.ante_wrun.specs.Machine.{state_of, whole, after, IsNested};
 ghost use Rattle.ante_wrun.specs.Control.{instance_of, program_of, own_at, Leads, NotHostCall, GivenAt, Takes, Leaves};
 ghost use Rattle.ante_wrun.specs.Runs.{NotStuck};
 

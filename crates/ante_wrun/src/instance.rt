@@ -1,13 +1,12 @@
 //! Making an instance of a valid module (section 4.5.4). Each type, name, body and number that it takes is there.
-ghost use Rattle.std.specs.Prelude.{◌≡◌, ◌+◌, ◌<◌, ◌≤◌, ◌&&◌, [], ◌∷◌, ◌++◌, length, map, min, nat_le, slice_get, fold, find, position, codes, IfOk, OnOk, IsTrue, true, Any};
-ghost use Rattle.std.specs.Option.{option_map};
-ghost use Rattle.std.specs.List.{list_all, AllByRecursion};
+ghost use Rattle.std.specs.Prelude.{◌≡◌, ◌+◌, ◌<◌, ◌≤◌, ◌&&◌, [], ◌∷◌, ◌++◌, length, map, nat_le, slice_get, fold, codes, IfOk, OnOk, true, Any};
+ghost use Rattle.std.specs.List.{AllByRecursion};
 ghost use Rattle.std.specs.Str.{bytes_eq};
 ghost use Rattle.ante_wtree.specs.Trees.{body_of, tree_of};
 ghost use Rattle.ante_wvalid.specs.Modules.{IsValid, OutOfBounds};
 ghost use Rattle.ante_wrun.specs.Machine.{values_of};
 ghost use Rattle.ante_wrun.specs.Control.{instance_of, program_of};
-ghost use Rattle.ante_wrun.specs.Instances.{host_place, given_as, given_functions, own, own_functions, constant, offset_of, first_globals, empty_table, most_pages, empty_memory, elements_fit, data_fits, segments_fit, with_element, with_segment, program_in, first_values, named_apply, apply_in};
+ghost use Rattle.ante_wrun.specs.Instances.{host_place, given_as, given_functions, own, own_functions, constant, offset_of, empty_table, most_pages, empty_memory, elements_fit, data_fits, with_element, with_segment, program_in, first_values, named_apply, apply_in};
 ghost use Rattle.ante_wrun.specs.Assured.{Links, IsLiteral};
 ghost use Rattle.ante_wrun.specs.Parts.{IsInstance};
 

@@ -1,6 +1,5 @@
 //! The loop of a run: looks, steps, instructions and host calls.
-ghost use Rattle.std.specs.Prelude.{◌≡◌, ℕ, suc, ◌<◌, ◌≤◌, List, [], length, Ok, None, Some};
-ghost use Rattle.ante_base.specs.Stops.{Looks};
+ghost use Rattle.std.specs.Prelude.{◌≡◌, ℕ, ◌<◌, ◌≤◌, [], length, Ok, None, Some};
 ghost use Rattle.ante_wmem.specs.HostCalls.{StaysAllowed};
 ghost use Rattle.ante_wrun.specs.Effects.{popped};
 ghost use Rattle.ante_wrun.specs.Meaning.{Outside, Program, invoked, round, due, arguments, masked, on_stack, call_host};

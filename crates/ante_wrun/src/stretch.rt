@@ -1,6 +1,6 @@
 //! Stretches of instructions that no look interrupts and that want no memory: plain ones, and blocks and branches inside a
 //! function. Their values, steps and code are kept at hand until the stretch ends.
-ghost use Rattle.std.specs.Prelude.{◌≡◌, ℕ, suc, ◌+◌, ◌-◌, ◌<◌, ◌≤◌, ◌%◌, List, Option, None, Some, length};
+ghost use Rattle.std.specs.Prelude.{◌≡◌, ℕ, ◌-◌, ◌<◌, ◌≤◌, ◌%◌};
 ghost use Rattle.ante_wrun.specs.Meaning.{Outside, Program};
 ghost use Rattle.ante_wrun.specs.Machine.{goes, state_of, going, IsNested, Nested};
 ghost use Rattle.ante_wrun.specs.Runs.{Begins, past, Sound};

@@ -1,7 +1,6 @@
 //! The open bodies of a run, on one explicit stack.
-ghost use Rattle.std.specs.Prelude.{◌≡◌, ℕ, ◌∷◌, [], length, Option};
-ghost use Rattle.ante_wtree.specs.Expressions.{put, expression_of};
-ghost use Rattle.ante_wrun.specs.Meaning.{Outside, Program, Normal, Branch, Returned, does, call};
+ghost use Rattle.std.specs.Prelude.{◌≡◌, ℕ, ◌∷◌, length};
+ghost use Rattle.ante_wrun.specs.Meaning.{Outside, Program, Normal, Branch, Returned};
 ghost use Rattle.ante_wrun.specs.Machine.{state_of, under, whole, going, Nested, IsNested, Finds, Reaches, Returns, Gives};
 ghost use Rattle.ante_wrun.specs.Runs.{NotStuck};
 

@@ -1,5 +1,5 @@
 //! The locals and operands of all frames in one growing list.
-ghost use Rattle.std.specs.Prelude.{◌≡◌, ◌+◌, ◌*◌, ◌-◌, ◌^◌, ◌<◌, ◌≤◌, List, [], ◌∷◌, ◌++◌, length, take, drop, reverse, replicate, slice_index, slice_set, Option, None, Some, OnOk, OnErr};
+ghost use Rattle.std.specs.Prelude.{◌≡◌, ◌+◌, ◌<◌, ◌≤◌, [], ◌∷◌, ◌++◌, length, take, drop, reverse, replicate, slice_index, slice_set, OnOk, OnErr};
 ghost use Rattle.ante_wrun.specs.Effects.{top, popped};
 ghost use Rattle.ante_wrun.specs.Meaning.{keep, unwound, arity, arguments, mask, masked};
 
