@@ -3,7 +3,8 @@ use Rattle.std.proofs.Common.{◌≡◌, ℕ, zero, suc, ◌+◌, ◌/◌, ◌%�
 use Rattle.std.proofs.lemmas.Bool.{le-ltb}
 use Rattle.sha2.specs.declared.Sha256.{Sha256}
 use Rattle.ante_pack.specs.Forms.{varuint_bytes, varuint}
-use Rattle.ante_pack.proofs.Repeated.{limit, bytes_last, spelled}
+use Rattle.ante_pack.specs.RepeatedCodecs.{limit}
+use Rattle.ante_pack.proofs.VaruintWriting.{bytes_last, spelled}
 use Rattle.ante_digest.specs.Feeds.{Feeds}
 use Rattle.ante_digest.proofs.Fed.{nothing, onto}
 

@@ -8,8 +8,8 @@ use Rattle.ante_pack.specs.declared.fault.PackFault.TheVariants.{Trailing}
 use Rattle.ante_pack.specs.declared.fault.ReadFault.{ReadFault}
 use Rattle.ante_pack.specs.declared.fault.ReadFault.TheVariants as faults
 use Rattle.ante_pack.specs.Forms.{Cursor, IsBytes, Form, Packs, whole, IsWhole, ReadsWhole, ReadsTo, ReadsAt, HasOneSpelling}
-use Rattle.ante_pack.proofs.Steps.{bind_ok, guard_done, done, ok_is}
-use Rattle.ante_pack.proofs.Codec.{IsCodec}
+use Rattle.ante_pack.specs.ReadSteps.{bind_ok, guard_done, done, ok_is}
+use Rattle.ante_pack.specs.Codec.{IsCodec}
 
 pub one_spelling : {A : Type 0} (form : Form A) → IsCodec form → HasOneSpelling form
 one_spelling {A} form codec a b x y fa fb e =

@@ -3,9 +3,6 @@ pub mod NameDigits
 pub mod NameReading
 pub mod NameTexts
 pub mod Varuint
-pub mod Steps
-pub mod Codec
-pub mod Repeated
-pub mod Values
+pub mod VaruintWriting
 pub mod Consequences
 pub mod Pieces

@@ -128,14 +128,14 @@ end_of c = if length c.rest == 0 then Ok tt else Err (Trailing c.at)
 -- ---- what calls answer
 
 -- A call that takes no memory answers what the form reads; after a fault the place is as before.
-abbrev pub Gives : {X Y : Type 0} → (X → Y) → Result X PackFault → Cursor → Cursor → Result (Y × Cursor) PackFault → Type 0
-Gives view (Ok x) old new read = read ≡ Ok (view x, new)
-Gives view (Err fault) old new read = (read ≡ Err fault) × (new ≡ old)
+abbrev pub ReadsField : {X Y : Type 0} → (X → Y) → Result X PackFault → Cursor → Cursor → Result (Y × Cursor) PackFault → Type 0
+ReadsField view (Ok x) old new read = read ≡ Ok (view x, new)
+ReadsField view (Err fault) old new read = (read ≡ Err fault) × (new ≡ old)
 
 -- the same of a varuint at the front of a slice
-abbrev pub VaruintGives : {A : Type 0} → (A → ℕ × List ℕ) → Result A PackFault → Result (ℕ × List ℕ) PackFault → Type 0
-VaruintGives view (Ok x) read = read ≡ Ok (view x)
-VaruintGives view (Err fault) read = read ≡ Err fault
+abbrev pub ReadsVaruint : {A : Type 0} → (A → ℕ × List ℕ) → Result A PackFault → Result (ℕ × List ℕ) PackFault → Type 0
+ReadsVaruint view (Ok x) read = read ≡ Ok (view x)
+ReadsVaruint view (Err fault) read = read ≡ Err fault
 
 -- the same of a call that takes memory, and says nothing of the place after a fault
 abbrev pub ReadsTo : {X : Type 0} → Result X ReadFault → Cursor → Result (X × Cursor) PackFault → Type 0

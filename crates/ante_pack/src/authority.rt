@@ -1,4 +1,4 @@
-ghost use Rattle.std.specs.Prelude.{◌≡◌, OnOk, OnErr};
+ghost use Rattle.std.specs.Prelude.{◌≡◌, IfOk, OnOk, OnErr};
 ghost use Rattle.ante_pack.specs.Adds.{Adds};
 ghost use Rattle.ante_pack.specs.Forms.{ReadsAt};
 ghost use Rattle.ante_pack.specs.Packed.{authority};
@@ -7,7 +7,7 @@ use crate::Key;
 use crate::fault::ReadFault;
 use crate::lists::Seq;
 use crate::names::Name;
-use crate::packed::{Packed, read_seq, write_seq, write_whole};
+use crate::packed::{Packed, read_seq_fields, write_seq_fields};
 use crate::reader::PackReader;
 use crate::writer::PackWriter;
 use std::alloc::{AllocError, Global};
@@ -41,7 +41,7 @@ pub struct WaitWeight {
 }
 
 /// What satisfies a permission: keys, permissions and waits whose weights reach the threshold.
-#[derive(Debug, Drop)]
+#[derive(Debug, Drop, PartialEq, Eq)]
 pub struct Authority {
     pub threshold: u32,
     pub keys: Seq<KeyWeight>,
@@ -51,32 +51,38 @@ pub struct Authority {
 
 impl Packed for Name {
     ghost use Rattle.ante_pack.specs.Packed.{name};
+    ghost use Rattle.ante_pack.specs.Codecs.{IsCodec-name};
 
     ghost form = { name };
 
-    fn read(_alloc: Global, reader: &mut PackReader<'_>) -> Result<Name, ReadFault> {
+    ghost is_codec = { IsCodec-name };
+
+    fn read_fields(_alloc: Global, reader: &mut PackReader<'_>) -> Result<Name, ReadFault> {
         Ok(reader.name()?)
     }
 
-    fn write(&self, alloc: Global, writer: &mut PackWriter) -> Result<(), AllocError> {
+    fn write_fields(&self, alloc: Global, writer: &mut PackWriter) -> Result<(), AllocError> {
         writer.put_name(alloc, *self)
     }
 }
 
 impl Packed for Level {
     ghost use Rattle.ante_pack.specs.Packed.{level};
+    ghost use Rattle.ante_pack.specs.Codecs.{IsCodec-level};
 
     ghost form = { level };
 
+    ghost is_codec = { IsCodec-level };
+
     #[tactic(auto, unfolding(crate::specs::Packed::level))]
-    fn read(_alloc: Global, reader: &mut PackReader<'_>) -> Result<Level, ReadFault> {
+    fn read_fields(_alloc: Global, reader: &mut PackReader<'_>) -> Result<Level, ReadFault> {
         let actor = reader.name()?;
         let permission = reader.name()?;
         Ok(Level { actor, permission })
     }
 
     #[tactic(auto, using(crate::proofs::Pieces::onto), unfolding(crate::specs::Packed::level))]
-    fn write(&self, alloc: Global, writer: &mut PackWriter) -> Result<(), AllocError> {
+    fn write_fields(&self, alloc: Global, writer: &mut PackWriter) -> Result<(), AllocError> {
         writer.put_name(alloc, self.actor)?;
         writer.put_name(alloc, self.permission)
     }
@@ -84,18 +90,21 @@ impl Packed for Level {
 
 impl Packed for KeyWeight {
     ghost use Rattle.ante_pack.specs.Packed.{key_weight};
+    ghost use Rattle.ante_pack.specs.Codecs.{IsCodec-key_weight};
 
     ghost form = { key_weight };
 
+    ghost is_codec = { IsCodec-key_weight };
+
     #[tactic(auto, unfolding(crate::specs::Packed::key_weight))]
-    fn read(_alloc: Global, reader: &mut PackReader<'_>) -> Result<KeyWeight, ReadFault> {
+    fn read_fields(_alloc: Global, reader: &mut PackReader<'_>) -> Result<KeyWeight, ReadFault> {
         let key = reader.key()?;
         let weight = reader.u16()?;
         Ok(KeyWeight { key, weight })
     }
 
     #[tactic(auto, using(crate::proofs::Pieces::onto), unfolding(crate::specs::Packed::key_weight))]
-    fn write(&self, alloc: Global, writer: &mut PackWriter) -> Result<(), AllocError> {
+    fn write_fields(&self, alloc: Global, writer: &mut PackWriter) -> Result<(), AllocError> {
         writer.put_key(alloc, &self.key)?;
         writer.put_u16(alloc, self.weight)
     }
@@ -103,37 +112,43 @@ impl Packed for KeyWeight {
 
 impl Packed for LevelWeight {
     ghost use Rattle.ante_pack.specs.Packed.{level_weight};
+    ghost use Rattle.ante_pack.specs.Codecs.{IsCodec-level_weight};
 
     ghost form = { level_weight };
 
+    ghost is_codec = { IsCodec-level_weight };
+
     #[tactic(auto, unfolding(crate::specs::Packed::level_weight))]
-    fn read(alloc: Global, reader: &mut PackReader<'_>) -> Result<LevelWeight, ReadFault> {
-        let level = Level::read(alloc, reader)?;
+    fn read_fields(alloc: Global, reader: &mut PackReader<'_>) -> Result<LevelWeight, ReadFault> {
+        let level = Level::read_fields(alloc, reader)?;
         let weight = reader.u16()?;
         Ok(LevelWeight { level, weight })
     }
 
     #[tactic(auto, using(crate::proofs::Pieces::onto), unfolding(crate::specs::Packed::level_weight))]
-    fn write(&self, alloc: Global, writer: &mut PackWriter) -> Result<(), AllocError> {
-        self.level.write(alloc, writer)?;
+    fn write_fields(&self, alloc: Global, writer: &mut PackWriter) -> Result<(), AllocError> {
+        self.level.write_fields(alloc, writer)?;
         writer.put_u16(alloc, self.weight)
     }
 }
 
 impl Packed for WaitWeight {
     ghost use Rattle.ante_pack.specs.Packed.{wait_weight};
+    ghost use Rattle.ante_pack.specs.Codecs.{IsCodec-wait_weight};
 
     ghost form = { wait_weight };
 
+    ghost is_codec = { IsCodec-wait_weight };
+
     #[tactic(auto, unfolding(crate::specs::Packed::wait_weight))]
-    fn read(_alloc: Global, reader: &mut PackReader<'_>) -> Result<WaitWeight, ReadFault> {
+    fn read_fields(_alloc: Global, reader: &mut PackReader<'_>) -> Result<WaitWeight, ReadFault> {
         let seconds = reader.u32()?;
         let weight = reader.u16()?;
         Ok(WaitWeight { seconds, weight })
     }
 
     #[tactic(auto, using(crate::proofs::Pieces::onto), unfolding(crate::specs::Packed::wait_weight))]
-    fn write(&self, alloc: Global, writer: &mut PackWriter) -> Result<(), AllocError> {
+    fn write_fields(&self, alloc: Global, writer: &mut PackWriter) -> Result<(), AllocError> {
         writer.put_u32(alloc, self.seconds)?;
         writer.put_u16(alloc, self.weight)
     }
@@ -141,15 +156,18 @@ impl Packed for WaitWeight {
 
 impl Packed for Authority {
     ghost use Rattle.ante_pack.specs.Packed.{authority};
+    ghost use Rattle.ante_pack.specs.Codecs.{IsCodec-authority};
 
     ghost form = { authority };
 
+    ghost is_codec = { IsCodec-authority };
+
     #[tactic(auto, unfolding(crate::specs::Packed::authority))]
-    fn read(alloc: Global, reader: &mut PackReader<'_>) -> Result<Authority, ReadFault> {
+    fn read_fields(alloc: Global, reader: &mut PackReader<'_>) -> Result<Authority, ReadFault> {
         let threshold = reader.u32()?;
-        let keys = read_seq(alloc, reader)?;
-        let accounts = read_seq(alloc, reader)?;
-        let waits = read_seq(alloc, reader)?;
+        let keys = read_seq_fields(alloc, reader)?;
+        let accounts = read_seq_fields(alloc, reader)?;
+        let waits = read_seq_fields(alloc, reader)?;
         Ok(Authority {
             threshold,
             keys,
@@ -159,11 +177,28 @@ impl Packed for Authority {
     }
 
     #[tactic(auto, using(crate::proofs::Pieces::onto), unfolding(crate::specs::Packed::authority))]
-    fn write(&self, alloc: Global, writer: &mut PackWriter) -> Result<(), AllocError> {
+    fn write_fields(&self, alloc: Global, writer: &mut PackWriter) -> Result<(), AllocError> {
         writer.put_u32(alloc, self.threshold)?;
-        write_seq(alloc, writer, &self.keys)?;
-        write_seq(alloc, writer, &self.accounts)?;
-        write_seq(alloc, writer, &self.waits)
+        write_seq_fields(alloc, writer, &self.keys)?;
+        write_seq_fields(alloc, writer, &self.accounts)?;
+        write_seq_fields(alloc, writer, &self.waits)
+    }
+}
+
+impl Authority {
+    /// A copy of all its lists.
+    pub fn try_clone(&self, alloc: Global) -> Result<Authority, AllocError>
+        ensures { IfOk result (λ copy. copy ≡ self.now) }
+    {
+        let keys = self.keys.try_clone(alloc)?;
+        let accounts = self.accounts.try_clone(alloc)?;
+        let waits = self.waits.try_clone(alloc)?;
+        Ok(Authority {
+            threshold: self.threshold,
+            keys,
+            accounts,
+            waits,
+        })
     }
 }
 
@@ -172,7 +207,7 @@ pub fn read_authority(alloc: Global, reader: &mut PackReader<'_>) -> Result<Auth
     ensures { ReadsAt authority reader.old reader.new result }
 {
     let mut ahead = reader.fork();
-    let value = Authority::read(alloc, &mut ahead)?;
+    let value = Authority::read_fields(alloc, &mut ahead)?;
     *reader = ahead;
     Ok(value)
 }
@@ -187,6 +222,5 @@ pub fn write_authority(
     ensures ok { OnOk result (Adds writer.old writer.new (authority.spell value.now)) }
     ensures err { OnErr result (writer.new ≡ writer.old) }
 {
-    let packed = write_whole(alloc, value)?;
-    writer.put_raw(alloc, packed.as_slice())
+    value.write(alloc, writer)
 }

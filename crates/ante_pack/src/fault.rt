@@ -2,6 +2,8 @@ ghost use Rattle.std.specs.Prelude.{◌≡◌};
 ghost use Rattle.ante_pack.specs.declared.fault.ReadFault.TheVariants.{OutOfMemory, Pack};
 
 use std::alloc::{AllocError, AllocFailed};
+use std::error::Error;
+use std::fmt;
 
 /// Why packed bytes can't be read: the first fault from left to right, at the place `at`, which counts bytes from 0.
 #[derive(Clone, Copy, Debug, PartialEq, Eq)]
@@ -22,6 +24,33 @@ pub enum ReadFault {
     OutOfMemory,
     Pack(PackFault),
 }
+
+impl fmt::Display for PackFault {
+    fn fmt<W: fmt::Write>(&self, f: &mut fmt::Formatter<W>) -> fmt::Result {
+        match self {
+            PackFault::Short { at } => write!(f, "the field at byte {at} doesn't fit"),
+            PackFault::LongVaruint { at } => write!(
+                f,
+                "the varuint at byte {at} isn't the shortest spelling of a number of 32 bits"
+            ),
+            PackFault::KeyKind { at } => write!(f, "the key at byte {at} is of no known kind"),
+            PackFault::Trailing { at } => write!(f, "the value ends before byte {at}"),
+        }
+    }
+}
+
+impl Error for PackFault {}
+
+impl fmt::Display for ReadFault {
+    fn fmt<W: fmt::Write>(&self, f: &mut fmt::Formatter<W>) -> fmt::Result {
+        match self {
+            ReadFault::OutOfMemory => f.write_str("out of memory"),
+            ReadFault::Pack(fault) => write!(f, "{fault}"),
+        }
+    }
+}
+
+impl Error for ReadFault {}
 
 impl From<AllocError> for ReadFault {
     ghost from_gives = { λ _ e. e ≡ OutOfMemory };

@@ -16,7 +16,9 @@ pub use authority::{
 pub use fault::{PackFault, ReadFault};
 pub use lists::{Bytes, Seq};
 pub use names::{Key256, Name, NameFault, TableKey, name_from_text, name_text, names_are_numbers};
-pub use packed::{Packed, read_seq, read_whole, write_seq, write_whole};
+pub use packed::{
+    Packed, read_seq, read_seq_fields, read_whole, write_seq, write_seq_fields, write_whole,
+};
 pub use reader::PackReader;
 pub use writer::PackWriter;
 

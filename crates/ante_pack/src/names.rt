@@ -2,6 +2,9 @@ ghost use Rattle.std.specs.Prelude.{◌≡◌, ℕ, ◌/◌, ◌%◌, ◌^◌, �
 ghost use Rattle.ante_pack.specs.Names.{IsNameText, NamesAreNumbers, alphabet, choices, name_of_text, worth};
 ghost use Rattle.ante_pack.specs.Names as names;
 
+use std::error::Error;
+use std::fmt;
+
 /// A name of an account, an action, a table or a permission, as its number: up to twelve characters of five bits each
 /// from the top, and a thirteenth of four bits.
 #[derive(Clone, Copy, Debug, PartialEq, Eq, PartialOrd, Ord, Hash)]
@@ -32,6 +35,18 @@ pub enum NameFault {
     /// The thirteenth character comes after `j`, and doesn't fit in four bits.
     BadLast,
 }
+
+impl fmt::Display for NameFault {
+    fn fmt<W: fmt::Write>(&self, f: &mut fmt::Formatter<W>) -> fmt::Result {
+        match self {
+            NameFault::TooLong => f.write_str("a name has at most thirteen characters"),
+            NameFault::BadChar { at } => write!(f, "the character at byte {at} can't be in a name"),
+            NameFault::BadLast => f.write_str("the thirteenth character comes after `j`"),
+        }
+    }
+}
+
+impl Error for NameFault {}
 
 /// The characters of names, in the order of their numbers.
 const ALPHABET: [u8; 32] = *b".12345abcdefghijklmnopqrstuvwxyz";

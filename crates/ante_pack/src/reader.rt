@@ -1,7 +1,7 @@
 ghost use Rattle.std.specs.Prelude.{◌≡◌, ℕ, ◌<◌, ◌≤◌, ◌^◌, length, drop, Result, Ok, Err};
 ghost use Rattle.std.specs.Prelude.{◌-◌, IfOk, nat_lt, if◌then◌else◌};
 ghost use Rattle.ante_pack.specs.declared.fault.PackFault.TheVariants.{LongVaruint};
-ghost use Rattle.ante_pack.specs.Forms.{Gives, IsBytes, VaruintGives, Bounded, bytes_at, end_of, varuint, string, varuint_within};
+ghost use Rattle.ante_pack.specs.Forms.{ReadsField, IsBytes, ReadsVaruint, Bounded, bytes_at, end_of, varuint, string, varuint_within};
 ghost use Rattle.ante_pack.specs.Packed as forms;
 
 use crate::fault::PackFault;
@@ -51,7 +51,7 @@ impl<'a> PackReader<'a> {
     }
 
     fn take(&mut self, count: usize) -> Result<&'a [u8], PackFault>
-        ensures bytes { Gives (λ s. s.now) result self.old self.new (bytes_at count self.old) }
+        ensures bytes { ReadsField (λ s. s.now) result self.old self.new (bytes_at count self.old) }
         ensures count { IfOk result (λ s. length s.now ≡ count) }
     {
         let (_, rest) = self.bytes.split_at(self.at);
@@ -65,7 +65,7 @@ impl<'a> PackReader<'a> {
 
     #[tactic(auto, unfolding(crate::specs::Packed::u8))]
     pub fn u8(&mut self) -> Result<u8, PackFault>
-        ensures { Gives (λ n. n) result self.old self.new (forms.u8.read self.old) }
+        ensures { ReadsField (λ n. n) result self.old self.new (forms.u8.read self.old) }
     {
         let front = self.take(1)?;
         Ok(front[0])
@@ -73,7 +73,7 @@ impl<'a> PackReader<'a> {
 
     #[tactic(auto, unfolding(crate::specs::Packed::u16))]
     pub fn u16(&mut self) -> Result<u16, PackFault>
-        ensures { Gives (λ n. n) result self.old self.new (forms.u16.read self.old) }
+        ensures { ReadsField (λ n. n) result self.old self.new (forms.u16.read self.old) }
     {
         let front = self.take(2)?;
         Ok(u16::from_le_bytes([front[0], front[1]]))
@@ -81,7 +81,7 @@ impl<'a> PackReader<'a> {
 
     #[tactic(auto, unfolding(crate::specs::Packed::u32))]
     pub fn u32(&mut self) -> Result<u32, PackFault>
-        ensures { Gives (λ n. n) result self.old self.new (forms.u32.read self.old) }
+        ensures { ReadsField (λ n. n) result self.old self.new (forms.u32.read self.old) }
     {
         let front = self.take(4)?;
         Ok(u32::from_le_bytes([front[0], front[1], front[2], front[3]]))
@@ -89,7 +89,7 @@ impl<'a> PackReader<'a> {
 
     #[tactic(auto, unfolding(crate::specs::Packed::u64))]
     pub fn u64(&mut self) -> Result<u64, PackFault>
-        ensures { Gives (λ n. n) result self.old self.new (forms.u64.read self.old) }
+        ensures { ReadsField (λ n. n) result self.old self.new (forms.u64.read self.old) }
     {
         let front = self.take(8)?;
         Ok(u64::from_le_bytes([
@@ -99,7 +99,7 @@ impl<'a> PackReader<'a> {
 
     #[tactic(auto, unfolding(crate::specs::Packed::name))]
     pub fn name(&mut self) -> Result<Name, PackFault>
-        ensures { Gives (λ n. n) result self.old self.new (forms.name.read self.old) }
+        ensures { ReadsField (λ n. n) result self.old self.new (forms.name.read self.old) }
     {
         Ok(Name(self.u64()?))
     }
@@ -107,7 +107,7 @@ impl<'a> PackReader<'a> {
     /// A LEB128 number of 32 bits in its shortest spelling.
     #[tactic(auto, unfolding(crate::specs::Forms::varuint))]
     pub fn varuint(&mut self) -> Result<u32, PackFault>
-        ensures { Gives (λ n. n) result self.old self.new (varuint.read self.old) }
+        ensures { ReadsField (λ n. n) result self.old self.new (varuint.read self.old) }
     {
         let (_, rest) = self.bytes.split_at(self.at);
         let (number, after) = varuint_of(self.at, rest, 4)?;
@@ -118,7 +118,7 @@ impl<'a> PackReader<'a> {
     /// A length and that many bytes, which are borrowed from the input.
     #[tactic(auto, unfolding(crate::specs::Forms::string))]
     pub fn bytes(&mut self) -> Result<&'a [u8], PackFault>
-        ensures { Gives (λ s. s.now) result self.old self.new (string.read self.old) }
+        ensures { ReadsField (λ s. s.now) result self.old self.new (string.read self.old) }
     {
         let mut ahead = self.fork();
         let count = ahead.varuint()?;
@@ -129,7 +129,7 @@ impl<'a> PackReader<'a> {
 
     #[tactic(auto, unfolding(crate::specs::Packed::digest))]
     pub fn digest(&mut self) -> Result<Digest, PackFault>
-        ensures { Gives (λ n. n) result self.old self.new (forms.digest.read self.old) }
+        ensures { ReadsField (λ n. n) result self.old self.new (forms.digest.read self.old) }
     {
         let front = self.take(32)?;
         let mut digest = [0; 32];
@@ -140,7 +140,7 @@ impl<'a> PackReader<'a> {
     /// A kind byte, 0 or 1, and 33 bytes.
     #[tactic(auto, unfolding(crate::specs::Packed::key))]
     pub fn key(&mut self) -> Result<Key, PackFault>
-        ensures { Gives (λ n. n) result self.old self.new (forms.key.read self.old) }
+        ensures { ReadsField (λ n. n) result self.old self.new (forms.key.read self.old) }
     {
         let mut ahead = self.fork();
         let front = ahead.take(34)?;
@@ -167,7 +167,7 @@ impl<'a> PackReader<'a> {
 /// Reads a varuint from the front of `bytes`; `at` is the place of its first byte, and at most `left` bytes follow that.
 fn varuint_of(at: usize, bytes: &[u8], left: u8) -> Result<(u32, &[u8]), PackFault>
     requires { left ≤ 4 }
-    ensures number { VaruintGives (λ r. (r.0, r.1.now)) result (varuint_within at bytes.now left) }
+    ensures number { ReadsVaruint (λ r. (r.0, r.1.now)) result (varuint_within at bytes.now left) }
     ensures small { IfOk result (λ r. Bounded left r.0) }
     ensures rest { IfOk result (λ r. length r.1.now ≤ length bytes.now) }
     ensures place { IfOk result (λ r. r.1.now ≡ drop (length bytes.now - length r.1.now) bytes.now) }
@@ -190,7 +190,7 @@ fn varuint_of(at: usize, bytes: &[u8], left: u8) -> Result<(u32, &[u8]), PackFau
 }
 
 fn last_of_five(at: usize, last: u8, rest: &[u8]) -> Result<(u32, &[u8]), PackFault>
-    ensures number { VaruintGives (λ r. (r.0, r.1.now)) result (if nat_lt last 16 then Ok (last, rest.now) else Err (LongVaruint at)) }
+    ensures number { ReadsVaruint (λ r. (r.0, r.1.now)) result (if nat_lt last 16 then Ok (last, rest.now) else Err (LongVaruint at)) }
     ensures small { IfOk result (λ r. (r.0 < 16) × (r.1.now ≡ rest.now)) }
 {
     if last < 16 {

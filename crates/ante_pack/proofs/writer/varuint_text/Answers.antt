@@ -1,6 +1,6 @@
 use Rattle.std.proofs.Common.{◌∙◌}
 use Rattle.ante_pack.specs.Forms.{varuint_bytes}
-use Rattle.ante_pack.proofs.Repeated.{writes_more, writes_last, spelled}
+use Rattle.ante_pack.proofs.VaruintWriting.{writes_more, writes_last, spelled}
 use Rattle.ante_pack.proofs.writer.varuint_text.Goals as goal
 
 pub loop-left-preserved : goal.loop-left-preserved

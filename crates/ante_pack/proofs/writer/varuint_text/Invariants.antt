@@ -1,5 +1,5 @@
 use Rattle.ante_pack.specs.Forms.{varuint_bytes}
-use Rattle.ante_pack.proofs.Repeated.{Writes}
+use Rattle.ante_pack.proofs.VaruintWriting.{Writes}
 use Rattle.ante_pack.proofs.writer.varuint_text.Given as goal
 
 abbrev pub invariant-loop-left : goal.invariant-loop-left

@@ -1,4 +1,4 @@
--- A form is a codec: what is read is spelled so, and what is spelled is read, whatever follows.
+-- Numbers, fields of a fixed length, pairs and the forms made of them are codecs.
 use Rattle.std.proofs.Common.{◌≡◌, ℕ, ◌+◌, ◌%◌, ◌^◌, ◌<◌, ◌≤◌, false, ltb, List, [], ◌∷◌, ◌++◌, length, take, drop, Ok, refl, sym, ap, subst, ◌∙◌, append_assoc, arith, inl, inr}
 use Rattle.std.specs.Int.{Width, w8, w16, w32, w64, byte_len, from_le_bytes, to_le_bytes}
 use Rattle.std.proofs.lemmas.Bool.{cases_lt, ltb-false, le-ltb}
@@ -6,7 +6,8 @@ use Rattle.std.proofs.lemmas.List.{take_at, drop_at, take-append-drop, length-ap
 use Rattle.std.proofs.lemmas.Nat.{le_bytes_2, le_bytes_4, le_bytes_8, from_le_bytes-to_le_bytes_2, from_le_bytes-to_le_bytes_4, from_le_bytes-to_le_bytes_8}
 use Rattle.ante_pack.specs.declared.fault.PackFault.TheVariants.{Short}
 use Rattle.ante_pack.specs.Forms.{Cursor, advanced, Form, ◌>>=◌, bytes_at, number, fixed, pair, made_of, IsBytes}
-use Rattle.ante_pack.proofs.Steps.{bind_ok, guard_ok, done, ok_is}
+use Rattle.ante_pack.specs.Codec.{Takes, IsCodec}
+use Rattle.ante_pack.specs.ReadSteps.{bind_ok, guard_ok, done, ok_is}
 
 pub IsBytes-drop : (n : ℕ) (bytes : List ℕ) → IsBytes bytes → IsBytes (drop n bytes)
 IsBytes-drop n bytes h i = rw get_or-drop (h (n + i))
@@ -17,16 +18,6 @@ IsBytes-take n bytes h i =
       | inl lt ↦ rw (get_or-take n bytes i 0 lt) (h i)
       | inr le ↦ rw (get_or_past (take n bytes) i 0 (omega (arith, length-take n bytes))) (omega arith)
     ]
-
--- where a reader stands after it took a text from the front
-pub record Takes (old : Cursor) (text : List ℕ) (new : Cursor) : Type 0 where
-  pub parts : old.rest ≡ text ++ new.rest
-  pub place : new.at ≡ old.at + length text
-  pub rest_fits : IsBytes new.rest
-
-pub record IsCodec {A : Type 0} (form : Form A) : Type 0 where
-  pub takes : (c : Cursor) (x : A) (d : Cursor) → IsBytes c.rest → form.read c ≡ Ok (x, d) → Takes c (form.spell x) d × form.Fits x
-  pub again : (x : A) (at : ℕ) (rest : List ℕ) → form.Fits x → form.read (record { at = at; rest = form.spell x ++ rest }) ≡ Ok (x, record { at = at + length (form.spell x); rest = rest })
 
 pub Takes-then : (a : Cursor) (x : List ℕ) (b : Cursor) (y : List ℕ) (c : Cursor) → Takes a x b → Takes b y c → Takes a (x ++ y) c
 Takes-then a x b y c p q = record {

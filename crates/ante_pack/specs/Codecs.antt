@@ -1,9 +1,11 @@
--- Each type's form is a codec, by its fields.
+-- Each type's form is a codec, by its fields: what each implementation of `Packed` owes.
 use Rattle.std.proofs.Common.{refl}
 use Rattle.ante_pack.specs.Packed.{u8, u16, u32, u64, name, digest, level, key_weight, level_weight, wait_weight, authority}
 use Rattle.std.specs.Int.{w8, w16, w32, w64}
-use Rattle.ante_pack.proofs.Codec.{IsCodec, IsCodec-number, IsCodec-fixed, IsCodec-pair, IsCodec-made, wide8, wide16, wide32, wide64}
-use Rattle.ante_pack.proofs.Repeated.{IsCodec-key, IsCodec-list}
+use Rattle.ante_pack.specs.Forms.{string}
+use Rattle.ante_pack.specs.Codec.{IsCodec}
+use Rattle.ante_pack.specs.FieldCodecs.{IsCodec-number, IsCodec-fixed, IsCodec-pair, IsCodec-made, wide8, wide16, wide32, wide64}
+use Rattle.ante_pack.specs.RepeatedCodecs.{IsCodec-string, IsCodec-key, IsCodec-list}
 
 pub IsCodec-u8 : IsCodec u8
 unfolding u8
@@ -20,6 +22,9 @@ IsCodec-u32 = IsCodec-number w32 wide32
 pub IsCodec-u64 : IsCodec u64
 unfolding u64
 IsCodec-u64 = IsCodec-number w64 wide64
+
+pub IsCodec-bytes : IsCodec string
+IsCodec-bytes = IsCodec-string
 
 pub IsCodec-name : IsCodec name
 unfolding name
