@@ -6,7 +6,7 @@ ghost use Rattle.std.specs.Prelude.{◌≡◌, ◌+◌, ◌-◌, ◌<◌, ◌≤
 use std::alloc::{AllocError, Global};
 use std::marker::Model;
 
-/// The least room that is made at once.
+/// The least number of slots that is made at once.
 const LEAST: usize = 1024;
 
 /// Numbers in slots that are all there before they are used; the list is the front of them.
@@ -28,6 +28,7 @@ impl Model for Slots {
 }
 
 impl Slots {
+    /// No numbers, and no space.
     pub fn new(alloc: Global) -> Slots
         ensures { result ≡ record { items = []; space = 0 } }
     {
@@ -37,6 +38,7 @@ impl Slots {
         }
     }
 
+    /// How many numbers there are.
     #[inline(always)]
     pub fn len(&self) -> usize
         ensures { result ≡ length self.now.items }
@@ -75,6 +77,7 @@ impl Slots {
         Ok(())
     }
 
+    /// The number at this place.
     #[inline(always)]
     pub fn at(&self, at: usize) -> u64
         requires { at < length self.now.items }
@@ -83,6 +86,7 @@ impl Slots {
         self.slots[at]
     }
 
+    /// Puts a number in place of another.
     #[inline(always)]
     pub fn set(&mut self, at: usize, value: u64)
         requires { at < length self.old.items }
@@ -118,6 +122,7 @@ impl Slots {
         Ok(())
     }
 
+    /// The numbers.
     pub fn as_slice(&self) -> &[u64]
         ensures { result.now ≡ self.now.items }
     {

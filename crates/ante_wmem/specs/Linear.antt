@@ -1,15 +1,16 @@
 -- A linear memory and what its instructions do to it: sections 4.2.8, 4.3.1 and 4.4.4 of WebAssembly Core 1.0.
 use Rattle.std.specs.Prelude.{ℕ, zero, suc, ◌+◌, ◌*◌, ◌/◌, ◌%◌, ◌<◌, Bool, ◌||◌, ◌==◌, nat_le, if◌then◌else◌, List, [], ◌∷◌, ◌++◌, length, take, drop, replicate}
+use Rattle.ante_wmem.specs.Limits.{page_size}
 use Rattle.ante_wmem.specs.declared.Width.{Width}
 use Rattle.ante_wmem.specs.declared.Width.TheVariants.{One, Two, Four, Eight}
 
--- the bytes, of whole pages of 65,536 bytes, and the most number of pages that they may grow to
+-- the bytes, of whole pages, and the number of pages that they may grow to at most
 pub record LinearMemory : Type 0 where
   pub bytes : List ℕ
   pub most : ℕ
 
 abbrev pub page_count : LinearMemory → ℕ
-page_count m = length m.bytes / 65536
+page_count m = length m.bytes / page_size
 
 -- ---- ranges
 
@@ -61,4 +62,4 @@ growth_answer m pages = if may_grow m pages then page_count m else 4294967295
 
 -- the new bytes are 0
 abbrev pub grown : LinearMemory → (pages : ℕ) → LinearMemory
-grown m pages = if may_grow m pages then record m { bytes = m.bytes ++ replicate (65536 * pages) 0 } else m
+grown m pages = if may_grow m pages then record m { bytes = m.bytes ++ replicate (page_size * pages) 0 } else m

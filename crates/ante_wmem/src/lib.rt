@@ -3,12 +3,14 @@
 
 mod bytes;
 mod host;
+pub mod limits;
 mod memory;
 #[cfg(test)]
 mod tests;
 
 pub use host::{Host, HostAnswer, HostFn};
 pub use memory::Memory;
+use thiserror::Error;
 
 /// How many bytes a load or a store moves.
 #[derive(Clone, Copy, PartialEq, Eq, Debug)]
@@ -20,5 +22,6 @@ pub enum Width {
 }
 
 /// A byte of the range lies past the memory's end.
-#[derive(Clone, Copy, PartialEq, Eq, Debug)]
+#[derive(Clone, Copy, PartialEq, Eq, Debug, Error)]
+#[error("out of bounds memory access")]
 pub struct OutOfBounds;

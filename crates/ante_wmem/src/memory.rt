@@ -1,13 +1,12 @@
 //! The memory itself.
 ghost use Rattle.std.specs.Prelude.{◌≡◌, ◌+◌, ◌*◌, ◌<◌, ◌≤◌, ◌↔◌, length, replicate, IsTrue, is_ok, IsOk, IfOk, OnOk, OnErr};
 
+use crate::limits::PAGE_SIZE;
 use crate::{OutOfBounds, Width, bytes};
 use std::alloc::{AllocError, Global};
 use std::marker::Model;
 
-const PAGE: usize = 65_536;
-
-/// A linear memory: bytes in whole pages of 65,536, and the most pages that it may grow to.
+/// A linear memory (section 4.2.8): bytes in whole pages, and the pages that it may grow to at most.
 #[derive(Drop)]
 pub struct Memory {
     bytes: Vec<u8>,
@@ -16,6 +15,7 @@ pub struct Memory {
 
 impl Model for Memory {
     ghost use Rattle.std.specs.Prelude.{◌≡◌, ◌*◌, ◌/◌, ◌≤◌, length};
+    ghost use Rattle.ante_wmem.specs.Limits.{page_size, most_memory_pages};
     ghost use Rattle.ante_wmem.specs.Linear.{LinearMemory};
 
     ghost Value = { LinearMemory };
@@ -23,32 +23,33 @@ impl Model for Memory {
     ghost view = { λ m. record { bytes = m.bytes.items; most = m.most } };
 
     ghost invariant = { λ m.
-        (65536 * (length m.bytes.items / 65536) ≡ length m.bytes.items) ×
-        (length m.bytes.items / 65536 ≤ m.most) × (m.most ≤ 528) };
+        (page_size * (length m.bytes.items / page_size) ≡ length m.bytes.items) ×
+        (length m.bytes.items / page_size ≤ m.most) × (m.most ≤ most_memory_pages) };
 }
 
 impl Memory {
+    ghost use Rattle.ante_wmem.specs.Limits.{page_size, most_memory_pages};
     ghost use Rattle.ante_wmem.specs.Linear.{page_count, IsInside, is_inside, bytes_at, written};
     ghost use Rattle.ante_wmem.specs.Linear.{little_endian, low_bytes, byte_count, may_grow, growth_answer, grown};
 
     /// A memory of zeros.
     pub fn new(alloc: Global, pages: u32, most: u32) -> Result<Memory, AllocError>
         requires pages { pages ≤ most }
-        requires most { most ≤ 528 }
-        ensures { IfOk result (λ m. m ≡ record { bytes = replicate (65536 * pages) 0; most = most }) }
+        requires most { most ≤ most_memory_pages }
+        ensures { IfOk result (λ m. m ≡ record { bytes = replicate (page_size * pages) 0; most = most }) }
     {
-        let bytes = vec![in alloc; 0u8; PAGE * pages as usize]?;
+        let bytes = vec![in alloc; 0u8; PAGE_SIZE * pages as usize]?;
         Ok(Memory { bytes, most })
     }
 
     /// The size in pages: `memory.size`.
     pub fn pages(&self) -> u32
         ensures count { result ≡ page_count self.now }
-        ensures whole { 65536 * result ≡ length self.now.bytes }
+        ensures whole { page_size * result ≡ length self.now.bytes }
         ensures room { result ≤ self.now.most }
-        ensures limit { self.now.most ≤ 528 }
+        ensures limit { self.now.most ≤ most_memory_pages }
     {
-        (self.bytes.len() / PAGE) as u32
+        (self.bytes.len() / PAGE_SIZE) as u32
     }
 
     /// The most pages that the memory may grow to.
@@ -129,8 +130,23 @@ impl Memory {
         Ok(())
     }
 
+    /// Room for so many bytes, and ahead for as many again where the memory may have them, so that growth page by page
+    /// moves each byte a few times at most.
+    fn make_room(&mut self, length: usize) -> Result<(), AllocError>
+        requires { length ≤ page_size * self.old.most }
+        ensures { self.new ≡ self.old }
+    {
+        let count = self.bytes.len();
+        if length <= self.bytes.capacity() || length <= count {
+            return Ok(());
+        }
+        let most = PAGE_SIZE * self.most as usize;
+        let room = if length < most / 2 { 2 * length } else { most };
+        self.bytes.reserve_exact(room - count)
+    }
+
     /// `memory.grow`: the old size in pages, or 4,294,967,295 where the sum would pass the most.
-    pub fn grow(&mut self, alloc: Global, pages: u32) -> Result<u32, AllocError>
+    pub fn grow(&mut self, _alloc: Global, pages: u32) -> Result<u32, AllocError>
         ensures answer { IfOk result (λ answer. answer ≡ growth_answer self.old pages) }
         ensures memory { OnOk result (self.new ≡ grown self.old pages) }
 
@@ -143,11 +159,9 @@ impl Memory {
             return Ok(u32::MAX);
         }
         if pages > 0 {
-            let length = PAGE * (old + pages) as usize;
-            let mut bytes = Vec::with_capacity(alloc, length)?;
-            bytes.extend_from_slice(self.bytes.as_slice())?;
-            bytes.resize(length, 0)?;
-            self.bytes = bytes;
+            let length = PAGE_SIZE * (old + pages) as usize;
+            self.make_room(length)?;
+            self.bytes.resize(length, 0)?;
         }
         Ok(old)
     }

@@ -5,7 +5,9 @@ ghost use Rattle.ante_wmem.specs.HostCalls.{value, nothing, refused, step_limit}
 ghost use Rattle.ante_wmem.specs.Keeping.{counted};
 ghost use Rattle.ante_wmem.specs.Linear.{is_inside, overwritten, low_bytes};
 
+use crate::limits::MOST_MEMORY_PAGES;
 use crate::{Host, HostAnswer, HostFn, Memory, OutOfBounds, Width};
+use std::alloc::{AllocError, Global};
 use std::test::Fail;
 
 /// Function 0 counts its calls and answers the count, any other writes the count into the first byte. Each takes a step.
@@ -124,7 +126,7 @@ fn ranges_of_no_bytes_lie_anywhere(rt: HostRuntime) -> Result<(), Fail> {
 
 #[test]
 fn growth_stops_at_the_most(rt: HostRuntime) -> Result<(), Fail> {
-    let mut memory = Memory::new(rt.alloc(), 1, 528)?;
+    let mut memory = Memory::new(rt.alloc(), 1, MOST_MEMORY_PAGES)?;
     memory.write_bytes(65_535, &[7])?;
     for (pages, answer, size) in [
         (0, 1, 1),
@@ -142,6 +144,30 @@ fn growth_stops_at_the_most(rt: HostRuntime) -> Result<(), Fail> {
     assert_eq!(rt; memory.read_bytes(65_535, 2)?, [7, 0].as_slice());
     assert_eq!(rt; memory.load(34_603_007, 0, Width::One).ok(), Some(0));
     assert_eq!(rt; memory.load(34_603_008, 0, Width::One).ok(), None);
+    Ok(())
+}
+
+/// How many steps by a page the memory takes, each of which answers the size before.
+fn steps_by_a_page(memory: &mut Memory, alloc: Global) -> Result<u32, AllocError> {
+    let mut steps = 0;
+    while steps < MOST_MEMORY_PAGES {
+        let before = memory.pages();
+        if memory.grow(alloc, 1)? != before {
+            return Ok(steps);
+        }
+        steps += 1;
+    }
+    Ok(steps)
+}
+
+#[test]
+fn growth_goes_page_by_page(rt: HostRuntime) -> Result<(), Fail> {
+    let mut memory = Memory::new(rt.alloc(), 1, MOST_MEMORY_PAGES)?;
+    assert_eq!(rt;
+        steps_by_a_page(&mut memory, rt.alloc())?,
+        MOST_MEMORY_PAGES - 1
+    );
+    assert_eq!(rt; memory.pages(), MOST_MEMORY_PAGES);
     Ok(())
 }
 

@@ -5,7 +5,7 @@ use Rattle.std.proofs.lemmas.Nat.Bits.{bit_at_lowest, bit_at-suc, bit_at_and, bi
 use Rattle.std.proofs.Math.Nat.{mod-one, pow-suc}
 use Rattle.std.specs.Int.{bit_at}
 use Rattle.std.specs.Prelude.{replicate, bit_and, bit_or, bit_xor}
-use Rattle.ante_wnum.specs.Integers.{ibits, integer, joined}
+use Rattle.ante_wnum.specs.Numerics.{ibits, integer, joined}
 
 -- ---- taken apart
 

@@ -10,7 +10,7 @@ use Rattle.std.specs.Int.{bit_at}
 use Rattle.std.specs.Int.Count.{ones, ones_step, count_leading_zeros, count_trailing_zeros, leading_unique, under}
 use Rattle.std.specs.List.{prefix_len}
 use Rattle.std.specs.Prelude.{reverse, bit_and, bit_or, bit_xor, count_by}
-use Rattle.ante_wnum.specs.Integers.{ibits, integer, iand, ior, ixor, iclz, ictz, ipopcnt}
+use Rattle.ante_wnum.specs.Numerics.{ibits, integer, iand, ior, ixor, iclz, ictz, ipopcnt}
 use Rattle.ante_wnum.proofs.BitStrings.{ibits-last, integer-ibits, ibits-and, ibits-or, ibits-xor}
 
 -- ---- bit by bit

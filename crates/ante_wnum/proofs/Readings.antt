@@ -9,7 +9,7 @@ use Rattle.std.specs.Int.{Width, bit_at, cast_unsigned, cast_signed, int_shr}
 use Rattle.std.specs.Prelude.{replicate, int_div, int_rem, FitsSigned}
 use mir.Val.{sel}
 use lib.Signed.{mag_shr, mag_rem}
-use Rattle.ante_wnum.specs.Integers.{signed, unsigned, ibits, integer}
+use Rattle.ante_wnum.specs.Numerics.{signed, unsigned, ibits, integer}
 use Rattle.ante_wnum.proofs.Shifts.{shr-is, shr-ones, complement}
 
 -- ---- the reading, as the casts spell it

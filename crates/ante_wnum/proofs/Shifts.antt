@@ -5,7 +5,7 @@ use Rattle.std.proofs.lemmas.Nat.Bits.{bit_at_or, same_from_bits}
 use Rattle.std.proofs.lemmas.List.{append-nil}
 use Rattle.std.proofs.Math.Nat.{mod_self, mul-mod_left}
 use Rattle.std.specs.Prelude.{replicate, bit_or}
-use Rattle.ante_wnum.specs.Integers.{ibits, integer}
+use Rattle.ante_wnum.specs.Numerics.{ibits, integer}
 use Rattle.ante_wnum.proofs.BitStrings.{length-ibits, drop-ibits, take-ibits, integer-ibits, integer-append, length-copies, integer-zeros, integer-ones}
 
 -- the low n bits of i, moved up by k

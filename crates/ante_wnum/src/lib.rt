@@ -4,6 +4,7 @@
 mod word32;
 mod word64;
 
+use thiserror::Error;
 pub use word32::{i32_binary, i32_compare, i32_unary};
 pub use word64::{i64_binary, i64_compare, i64_unary};
 
@@ -51,10 +52,12 @@ pub enum Compare {
 }
 
 /// Why an instruction has no answer.
-#[derive(Clone, Copy, PartialEq, Eq, Debug)]
+#[derive(Clone, Copy, PartialEq, Eq, Debug, Error)]
 pub enum NumTrap {
     /// The divisor is 0.
+    #[error("integer divide by zero")]
     DivZero,
     /// The signed quotient is 2 ^ (N - 1), which has no signed reading.
+    #[error("integer overflow")]
     DivOverflow,
 }

@@ -1,6 +1,6 @@
 //! The instructions at 64 bits.
 ghost use Rattle.std.specs.Prelude.{◌≡◌, ◌≢◌, IsTrue, ◌-◌, ◌^◌, ◌<◌, ◌↔◌};
-ghost use Rattle.ante_wnum.specs.Instructions.{unary_of, binary_of, divides, compare_of};
+ghost use Rattle.ante_wnum.specs.NumericInstructions.{unary_of, binary_of, divides, compare_of};
 
 use crate::{Binary, Compare, NumTrap, Unary};
 

@@ -1,13 +1,18 @@
 -- The names of the table differ.
-use Rattle.std.proofs.Common.{◌≡◌, ℕ, zero, suc, ◌<◌, ◌^◌, Bool, true, false, not, ◌&&◌, ◌||◌, nat_eq, List, [], ◌∷◌, Some, map, slice_get, get_or, length, refl, sym, ap, ◌∙◌, subst, arith, eq-eqb}
+use Rattle.std.proofs.Common.{◌≡◌, ℕ, zero, suc, ◌<◌, ◌^◌, Bool, true, false, not, ◌&&◌, ◌||◌, nat_eq, List, [], ◌∷◌, Option, Some, map, slice_get, get_or, length, refl, sym, ap, ◌∙◌, subst, arith, eq-eqb}
 use Rattle.std.specs.Option.{option_map}
 use Rattle.std.proofs.lemmas.Option.{slice_get-map, slice_get-get_or, slice_get_within}
-use Rattle.ante_wtree.specs.declared.intrinsics.Intrinsic.{Intrinsic}
+use denote.Bor.{Bor}
+use Rattle.ante_wtree.specs.declared.instructions.ValueKind.{ValueKind}
 use Rattle.ante_wtree.specs.Intrinsics.{names, types, name_at, type_at}
 
+-- a row as the code has it
+abbrev Row : Type 0
+Row = Bor (List ℕ) × Bor (List ValueKind) × Option ValueKind
+
 -- the name of the row at a place
-pub named : (rows : List Intrinsic) (at : ℕ) (d : Intrinsic) → at < length rows → slice_get (map (λ r. r.name.now) rows) at ≡ Some (get_or rows at d).name.now
-named rows at d lt = slice_get-map (λ r. r.name.now) rows at ∙ ap (option_map (λ (r : Intrinsic). r.name.now)) (slice_get-get_or rows at d lt)
+pub named : (rows : List Row) (at : ℕ) (d : Row) → at < length rows → slice_get (map (λ r. r.0.now) rows) at ≡ Some (get_or rows at d).0.now
+named rows at d lt = slice_get-map (λ r. r.0.now) rows at ∙ ap (option_map (λ (r : Row). r.0.now)) (slice_get-get_or rows at d lt)
 
 -- ---- the test that names differ, and what it says
 
@@ -59,5 +64,5 @@ one_number m n name h k = one_place names names_differ m n name h k
 pub number_below : (n : ℕ) (name : List ℕ) → name_at n ≡ Some name → n < 2 ^ 32
 number_below n name h = omega (arith, slice_get_within names n name h)
 
-pub type_of_row : (rows : List Intrinsic) (at : ℕ) → map (λ r. (r.params.now, r.result)) rows ≡ types → option_map (λ r. (r.params.now, r.result)) (slice_get rows at) ≡ type_at at
-type_of_row rows at e = sym (slice_get-map (λ r. (r.params.now, r.result)) rows at) ∙ ap (λ xs. slice_get xs at) e
+pub type_of_row : (rows : List Row) (at : ℕ) → map (λ r. (r.1.now, r.2)) rows ≡ types → option_map (λ r. (r.1.now, r.2)) (slice_get rows at) ≡ type_at at
+type_of_row rows at e = sym (slice_get-map (λ r. (r.1.now, r.2)) rows at) ∙ ap (λ xs. slice_get xs at) e

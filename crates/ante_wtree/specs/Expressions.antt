@@ -30,81 +30,81 @@ pub data Expression : Type 0 where
 
 -- an instruction before a sequence, and the sequence that a body is
 abbrev mutual
-  pub put : Instr → Expression → Expression
-  put instr.Unreachable rest = Plain plain.Unreachable rest
-  put instr.Nop rest = Plain plain.Nop rest
-  put (instr.Block' kind shape body) rest = Block kind (row_code body) rest
-  put (instr.Loop' kind shape body) rest = Loop kind (row_code body) rest
-  put (instr.If' kind shape one shape-2 two) rest = If kind (row_code one) (row_code two) rest
-  put (instr.Br label) rest = Br label rest
-  put (instr.BrIf label) rest = BrIf label rest
-  put (instr.BrTable labels label) rest = BrTable labels label rest
-  put instr.Return rest = Return rest
-  put (instr.Call function) rest = Call function rest
-  put (instr.CallIndirect kind) rest = CallIndirect kind rest
-  put instr.Drop rest = Plain plain.Drop rest
-  put instr.Select rest = Plain plain.Select rest
-  put (instr.LocalGet n) rest = Plain (plain.LocalGet n) rest
-  put (instr.LocalSet n) rest = Plain (plain.LocalSet n) rest
-  put (instr.LocalTee n) rest = Plain (plain.LocalTee n) rest
-  put (instr.GlobalGet n) rest = Plain (plain.GlobalGet n) rest
-  put (instr.GlobalSet n) rest = Plain (plain.GlobalSet n) rest
-  put (instr.Load kind at) rest = Plain (plain.Load kind at) rest
-  put (instr.Store kind at) rest = Plain (plain.Store kind at) rest
-  put instr.MemorySize rest = Plain plain.MemorySize rest
-  put instr.MemoryGrow rest = MemoryGrow rest
-  put (instr.I32Const n) rest = Plain (plain.I32Const n) rest
-  put (instr.I64Const n) rest = Plain (plain.I64Const n) rest
-  put instr.I32Eqz rest = Plain plain.I32Eqz rest
-  put (instr.I32Compare op) rest = Plain (plain.I32Compare op) rest
-  put instr.I64Eqz rest = Plain plain.I64Eqz rest
-  put (instr.I64Compare op) rest = Plain (plain.I64Compare op) rest
-  put (instr.I32Unary op) rest = Plain (plain.I32Unary op) rest
-  put (instr.I32Binary op) rest = Plain (plain.I32Binary op) rest
-  put (instr.I64Unary op) rest = Plain (plain.I64Unary op) rest
-  put (instr.I64Binary op) rest = Plain (plain.I64Binary op) rest
-  put instr.I32WrapI64 rest = Plain plain.I32WrapI64 rest
-  put instr.I64ExtendI32S rest = Plain plain.I64ExtendI32S rest
-  put instr.I64ExtendI32U rest = Plain plain.I64ExtendI32U rest
+  pub cons : Instr → Expression → Expression
+  cons instr.Unreachable rest = Plain plain.Unreachable rest
+  cons instr.Nop rest = Plain plain.Nop rest
+  cons (instr.Block' kind shape body) rest = Block kind (row_code body) rest
+  cons (instr.Loop' kind shape body) rest = Loop kind (row_code body) rest
+  cons (instr.If' kind shape one shape-2 two) rest = If kind (row_code one) (row_code two) rest
+  cons (instr.Br label) rest = Br label rest
+  cons (instr.BrIf label) rest = BrIf label rest
+  cons (instr.BrTable labels label) rest = BrTable labels label rest
+  cons instr.Return rest = Return rest
+  cons (instr.Call function) rest = Call function rest
+  cons (instr.CallIndirect kind) rest = CallIndirect kind rest
+  cons instr.Drop rest = Plain plain.Drop rest
+  cons instr.Select rest = Plain plain.Select rest
+  cons (instr.LocalGet n) rest = Plain (plain.LocalGet n) rest
+  cons (instr.LocalSet n) rest = Plain (plain.LocalSet n) rest
+  cons (instr.LocalTee n) rest = Plain (plain.LocalTee n) rest
+  cons (instr.GlobalGet n) rest = Plain (plain.GlobalGet n) rest
+  cons (instr.GlobalSet n) rest = Plain (plain.GlobalSet n) rest
+  cons (instr.Load kind at) rest = Plain (plain.Load kind at) rest
+  cons (instr.Store kind at) rest = Plain (plain.Store kind at) rest
+  cons instr.MemorySize rest = Plain plain.MemorySize rest
+  cons instr.MemoryGrow rest = MemoryGrow rest
+  cons (instr.I32Const n) rest = Plain (plain.I32Const n) rest
+  cons (instr.I64Const n) rest = Plain (plain.I64Const n) rest
+  cons instr.I32Eqz rest = Plain plain.I32Eqz rest
+  cons (instr.I32Compare op) rest = Plain (plain.I32Compare op) rest
+  cons instr.I64Eqz rest = Plain plain.I64Eqz rest
+  cons (instr.I64Compare op) rest = Plain (plain.I64Compare op) rest
+  cons (instr.I32Unary op) rest = Plain (plain.I32Unary op) rest
+  cons (instr.I32Binary op) rest = Plain (plain.I32Binary op) rest
+  cons (instr.I64Unary op) rest = Plain (plain.I64Unary op) rest
+  cons (instr.I64Binary op) rest = Plain (plain.I64Binary op) rest
+  cons instr.I32WrapI64 rest = Plain plain.I32WrapI64 rest
+  cons instr.I64ExtendI32S rest = Plain plain.I64ExtendI32S rest
+  cons instr.I64ExtendI32U rest = Plain plain.I64ExtendI32U rest
 
   pub row_code : {m : _} → Row_of-Instr m → Expression
   row_code end_of-Instr = Over
-  row_code (more_of-Instr i rest) = put i (row_code rest)
+  row_code (more_of-Instr i rest) = cons i (row_code rest)
 
 -- the sequence of these instructions
 abbrev pub expression_of : List Instr → Expression
 expression_of [] = Over
-expression_of (i ∷ is) = put i (expression_of is)
+expression_of (i ∷ is) = cons i (expression_of is)
 
 row_is : {n : _} (r : Row_of-Instr n) → row_code r ≡ expression_of (items-the_row-Instr n r)
 row_is end_of-Instr = refl
-row_is (more_of-Instr i rest) = ap (put i) (row_is rest)
+row_is (more_of-Instr i rest) = ap (cons i) (row_is rest)
 
 -- A body's sequence is that of its instructions.
 pub body_is : (v : Vec Instr Global) → row_code (hidden-the_row-Instr-0 v) ≡ expression_of v.items
 body_is v = row_is (hidden-the_row-Instr-0 v) ∙ ap expression_of (items_hidden-the_row-Instr-0 v)
 
 -- what a shape says of an instruction, before a sequence
-abbrev pub put_shape : Shape → Expression → Expression
-put_shape (shape.Plain i) rest = Plain i rest
-put_shape (shape.Block kind body) rest = Block kind (expression_of body.now) rest
-put_shape (shape.Loop kind body) rest = Loop kind (expression_of body.now) rest
-put_shape (shape.If kind one two) rest = If kind (expression_of one.now) (expression_of two.now) rest
-put_shape (shape.Br label) rest = Br label rest
-put_shape (shape.BrIf label) rest = BrIf label rest
-put_shape (shape.BrTable labels label) rest = BrTable labels.now label rest
-put_shape shape.Return rest = Return rest
-put_shape (shape.Call function) rest = Call function rest
-put_shape (shape.CallIndirect kind) rest = CallIndirect kind rest
-put_shape shape.MemoryGrow rest = MemoryGrow rest
+abbrev pub cons_shape : Shape → Expression → Expression
+cons_shape (shape.Plain i) rest = Plain i rest
+cons_shape (shape.Block kind body) rest = Block kind (expression_of body.now) rest
+cons_shape (shape.Loop kind body) rest = Loop kind (expression_of body.now) rest
+cons_shape (shape.If kind one two) rest = If kind (expression_of one.now) (expression_of two.now) rest
+cons_shape (shape.Br label) rest = Br label rest
+cons_shape (shape.BrIf label) rest = BrIf label rest
+cons_shape (shape.BrTable labels label) rest = BrTable labels.now label rest
+cons_shape shape.Return rest = Return rest
+cons_shape (shape.Call function) rest = Call function rest
+cons_shape (shape.CallIndirect kind) rest = CallIndirect kind rest
+cons_shape shape.MemoryGrow rest = MemoryGrow rest
 
 -- ---- the instructions with bodies, as the code makes them
 
-pub put-Block : (kind : Option ValueKind) (body : Vec Instr Global) (rest : Expression) → put (made.Block kind body) rest ≡ Block kind (expression_of body.items) rest
-put-Block kind body rest = ap (λ b. Block kind b rest) (body_is body)
+pub cons-Block : (kind : Option ValueKind) (body : Vec Instr Global) (rest : Expression) → cons (made.Block kind body) rest ≡ Block kind (expression_of body.items) rest
+cons-Block kind body rest = ap (λ b. Block kind b rest) (body_is body)
 
-pub put-Loop : (kind : Option ValueKind) (body : Vec Instr Global) (rest : Expression) → put (made.Loop kind body) rest ≡ Loop kind (expression_of body.items) rest
-put-Loop kind body rest = ap (λ b. Loop kind b rest) (body_is body)
+pub cons-Loop : (kind : Option ValueKind) (body : Vec Instr Global) (rest : Expression) → cons (made.Loop kind body) rest ≡ Loop kind (expression_of body.items) rest
+cons-Loop kind body rest = ap (λ b. Loop kind b rest) (body_is body)
 
-pub put-If : (kind : Option ValueKind) (one two : Vec Instr Global) (rest : Expression) → put (made.If kind one two) rest ≡ If kind (expression_of one.items) (expression_of two.items) rest
-put-If kind one two rest = ap (λ b. If kind b (row_code (hidden-the_row-Instr-0 two)) rest) (body_is one) ∙ ap (λ b. If kind (expression_of one.items) b rest) (body_is two)
+pub cons-If : (kind : Option ValueKind) (one two : Vec Instr Global) (rest : Expression) → cons (made.If kind one two) rest ≡ If kind (expression_of one.items) (expression_of two.items) rest
+cons-If kind one two rest = ap (λ b. If kind b (row_code (hidden-the_row-Instr-0 two)) rest) (body_is one) ∙ ap (λ b. If kind (expression_of one.items) b rest) (body_is two)

@@ -1,12 +1,16 @@
 //! WebAssembly modules as trees (Core 1.0, section 2), and the table of the functions that a host gives them.
 #![tactic(auto)]
 
+mod accesses;
 mod instructions;
 mod intrinsics;
 mod laws;
+pub mod limits;
 mod modules;
 mod shape;
+mod types;
 
+pub use accesses::{exponent, load_result, load_width, store_operand, store_width};
 pub use instructions::{Instr, LoadKind, MemArg, PlainInstr, StoreKind, ValueKind};
 pub use intrinsics::{host_number, host_type};
 pub use laws::one_number_a_name;
@@ -15,3 +19,4 @@ pub use modules::{
     Segment,
 };
 pub use shape::{Shape, shape_of};
+pub use types::{result_of, same_kinds, same_type};

@@ -1,5 +1,5 @@
 ghost use Rattle.std.specs.Prelude.{◌≡◌};
-ghost use Rattle.ante_wtree.specs.Expressions.{Expression, put, put_shape};
+ghost use Rattle.ante_wtree.specs.Expressions.{Expression, cons, cons_shape};
 
 use crate::instructions::{Instr, PlainInstr, ValueKind};
 
@@ -22,7 +22,7 @@ pub enum Shape<'a> {
 /// The shape of an instruction.
 #[inline(always)]
 pub fn shape_of(instr: &Instr) -> Shape<'_>
-    ensures { (rest : Expression) → put instr.now rest ≡ put_shape result rest }
+    ensures { (rest : Expression) → cons instr.now rest ≡ cons_shape result rest }
 {
     match instr {
         Instr::Unreachable => Shape::Plain(PlainInstr::Unreachable),

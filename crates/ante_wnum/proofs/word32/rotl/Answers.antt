@@ -1,5 +1,5 @@
 use Rattle.std.proofs.Common.{◌≡◌, ◌-◌, ◌*◌, ◌/◌, ◌%◌, ◌^◌, ◌++◌, take, drop, bit_or, Ok, ap, sym, ◌∙◌, mod-eq_of_lt}
-use Rattle.ante_wnum.specs.Integers.{ibits, integer}
+use Rattle.ante_wnum.specs.Numerics.{ibits, integer}
 use Rattle.ante_wnum.proofs.Shifts.{rotl-is}
 use Rattle.ante_wnum.proofs.word32.rotl.Goals as goal
 

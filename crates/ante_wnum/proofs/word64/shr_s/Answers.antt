@@ -1,7 +1,7 @@
 use Rattle.std.proofs.Common.{ap, sym, ◌∙◌, arith, Ok, FitsSigned, w64, mod-eq_of_lt}
 use Rattle.std.specs.Int.{int_shr, cast_unsigned, bit_at}
 use Rattle.std.specs.Prelude.{replicate, ◌-◌, ◌++◌, take}
-use Rattle.ante_wnum.specs.Integers.{ibits, integer}
+use Rattle.ante_wnum.specs.Numerics.{ibits, integer}
 use Rattle.ante_wnum.proofs.Readings.{shifted, shr_s-is}
 use Rattle.ante_wnum.proofs.word64.shr_s.Goals as goal
 

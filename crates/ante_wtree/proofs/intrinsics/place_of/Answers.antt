@@ -16,4 +16,4 @@ loop-at-preserved c = below_more _ _ c.loop-at.invariant (λ e.
     let t = c.same.ensures.1 (some_is s) in cc)
 
 pub returns-clause-none : goal.returns-clause-none
-returns-clause-none c = λ at e. c.loop-at.invariant at (omega (arith, slice_get_within (map (λ r. r.name.now) c.args.rows.now) at c.args.name.now e, length-map c.args.rows.now (λ r. r.name.now))) e
+returns-clause-none c = λ at e. c.loop-at.invariant at (omega (arith, slice_get_within (map (λ r. r.0.now) c.args.rows.now) at c.args.name.now e, length-map c.args.rows.now (λ r. r.0.now))) e

@@ -1,6 +1,6 @@
 -- What each integer instruction gives at the width N: sections 4.3.2 and 4.4.1 of WebAssembly Core 1.0.
 use Rattle.std.specs.Prelude.{ℕ, ◌-◌, ◌*◌, ◌/◌, ◌^◌, Bool, true, false, not, ◌==◌, nat_lt, nat_le, if◌then◌else◌, pos, ◌-ℤ◌, ◌*ℤ◌, int_lt, int_le, int_div, Result, Ok, Err}
-use Rattle.ante_wnum.specs.Integers.{signed, unsigned, iadd, isub, imul, iand, ior, ixor, ishl, ishr_u, ishr_s, irotl, irotr, iclz, ictz, ipopcnt}
+use Rattle.ante_wnum.specs.Numerics.{signed, unsigned, iadd, isub, imul, iand, ior, ixor, ishl, ishr_u, ishr_s, irotl, irotr, iclz, ictz, ipopcnt}
 use Rattle.ante_wnum.specs.declared.Unary.{Unary}
 use Rattle.ante_wnum.specs.declared.Unary.TheVariants.{Clz, Ctz, Popcnt}
 use Rattle.ante_wnum.specs.declared.Binary.{Binary}

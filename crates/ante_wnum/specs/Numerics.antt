@@ -1,5 +1,5 @@
 -- The integer operations of section 4.3.2 of WebAssembly Core 1.0, under the standard's names, at any width N.
--- An integer of N bits is a number below 2 ^ N. Divisions, which can trap, and comparisons stand in `Instructions`.
+-- An integer of N bits is a number below 2 ^ N. Divisions, which can trap, and comparisons stand in `NumericInstructions`.
 use Rattle.std.specs.Prelude.{ℕ, zero, suc, ◌+◌, ◌-◌, ◌*◌, ◌%◌, ◌^◌, min, max, ◌==◌, nat_lt, if◌then◌else◌, List, [], ◌∷◌, ◌++◌, length, reverse, take, drop, replicate, count_by, ℤ, pos, negsuc, ◌-ℤ◌}
 use Rattle.std.specs.List.{prefix_len}
 use Rattle.std.specs.Int.{bit_at}
