@@ -18,6 +18,10 @@ Reads before after buffer (Bytes n) = Consumes before after (take n buffer)
 Reads before after buffer End = Keeps before after × IsAtEnd after
 Reads before after buffer Failed = Keeps before after
 
+-- one read asks for this many bytes at the most
+abbrev pub piece_limit : ℕ
+piece_limit = 4096
+
 -- At most so many bytes were taken from the front of what was left.
 abbrev pub TakesAtMost : ℕ → Option (List ℕ) → Option (List ℕ) → Type 0
 TakesAtMost most before after = (bytes : List ℕ) × (length bytes ≤ most) × Consumes before after bytes

@@ -19,6 +19,7 @@ pub trait Sink {
     /// How often a write has failed.
     ghost faults: { Self → ℕ };
 
+    /// Writes a front of the bytes, which aren't empty.
     fn write(&mut self, bytes: &[u8]) -> Put
         requires { 1 ≤ length bytes.now }
         ensures bytes { Writes (written self.old) (written self.new) bytes.now result }

@@ -21,6 +21,7 @@ pub trait Source {
     /// How often a read has failed.
     ghost faults: { Self → ℕ };
 
+    /// Reads into the front of the buffer, which isn't empty.
     fn read(&mut self, into: &mut [u8]) -> Got
         requires { 1 ≤ length into.old }
         ensures count { CountsWithin (length into.old) result }

@@ -12,8 +12,10 @@ pub struct ReadSource<R> {
 }
 
 impl<R: Read> ReadSource<R> {
+    /// No fault is counted yet.
     pub fn new(inner: R) -> ReadSource<R>
-        ensures { R.remaining result.inner ≡ R.remaining inner }
+        ensures remaining { R.remaining result.inner ≡ R.remaining inner }
+        ensures faults { result.faults ≡ 0 }
     {
         ReadSource { inner, faults: 0 }
     }
@@ -44,8 +46,10 @@ pub struct WriteSink<W> {
 }
 
 impl<W: Write> WriteSink<W> {
+    /// No fault is counted yet.
     pub fn new(inner: W) -> WriteSink<W>
-        ensures { W.contents result.inner ≡ W.contents inner }
+        ensures contents { W.contents result.inner ≡ W.contents inner }
+        ensures faults { result.faults ≡ 0 }
     {
         WriteSink { inner, faults: 0 }
     }

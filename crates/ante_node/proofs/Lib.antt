@@ -1,4 +1,4 @@
 pub mod Walks
-pub mod Lines
+pub mod FirstLine
 pub mod CommandLine
 pub mod Endings

@@ -1,7 +1,9 @@
 -- Walks over a list: what is still to come answers as the whole does.
 use Rattle.std.proofs.Common.{◌≡◌, ℕ, ◌+◌, ◌<◌, ◌≤◌, Bool, true, false, cond, List, [], ◌∷◌, ◌++◌, length, drop, get_or, Option, Some, None, refl, sym, ap, subst, ◌∙◌, append_assoc}
+use Rattle.std.specs.Prelude.{◌||◌}
 use Rattle.std.proofs.lemmas.List.{drop_all, drop_more, append-nil}
 use Rattle.ante_types.specs.declared.chain.Action.{Action}
+use Rattle.ante_types.specs.World.{World}
 use Rattle.ante_types.specs.declared.trace.ActionTrace.{ActionTrace}
 use Rattle.ante_pack.specs.Names.{name_text}
 use Rattle.ante_types.specs.declared.failure.Failure.TheVariants.{WriteRefused}
@@ -56,11 +58,15 @@ runs-end done xs i total le so_far =
 
 -- ---- what one action is to the walks
 
-pub unknown_yes : (a : Action) (there : Bool) → there ≡ is_there a.account → there ≡ false → unknown_account a ≡ Some a.account
-unknown_yes a there e absent = let test : is_there a.account ≡ false = sym e ∙ absent in rw test refl
+pub or_no_other : (b : Bool) → b ≡ (b || false)
+or_no_other true = refl
+or_no_other false = refl
 
-pub unknown_no : (a : Action) (there : Bool) → there ≡ is_there a.account → there ≡ true → unknown_account a ≡ None
-unknown_no a there e found = let test : is_there a.account ≡ true = sym e ∙ found in rw test refl
+pub unknown_yes : (world : World) (a : Action) (there : Bool) → there ≡ is_there world a.account → there ≡ false → unknown_account world a ≡ Some a.account
+unknown_yes world a there e absent = let test : is_there world a.account ≡ false = sym e ∙ absent in rw test refl
+
+pub unknown_no : (world : World) (a : Action) (there : Bool) → there ≡ is_there world a.account → there ≡ true → unknown_account world a ≡ None
+unknown_no world a there e found = let test : is_there world a.account ≡ true = sym e ∙ found in rw test refl
 
 pub refused_yes : (a : Action) (native : Bool) → native ≡ is_native a → native ≡ true → write_refused a ≡ Some (WriteRefused (record { 0 = name_text a.name.0 }))
 refused_yes a native e is = let test : is_native a ≡ true = sym e ∙ is in rw test refl

@@ -1,18 +1,15 @@
--- How a run ends: its status, and what it has written.
-use Rattle.std.specs.Prelude.{◌≡◌, ◌⊎◌, ℕ, List, ◌++◌, codes, decimal, Option, Result, Ok, Err, IfSome}
-use Rattle.std.specs.Io.KnownBytes.{Appends, IsAtEnd}
-use Rattle.ante_base.specs.Faults.{Rose}
+-- How a run ends: its status, its fault, and what it has written.
+use Rattle.std.specs.Prelude.{◌≡◌, ◌⊎◌, ℕ, List, ◌++◌, codes, decimal, Option, Result, Ok, Err}
+use Rattle.std.specs.Io.KnownBytes.{Appends}
 use Rattle.ante_base.specs.Sink.{AppendsFront}
-use Rattle.ante_types.specs.Genesis.{builtin_genesis, genesis_head}
-use Rattle.ante_types.specs.Traces.{trace_json}
 use Rattle.ante_node.specs.declared.fault.InputKind.{InputKind}
 use Rattle.ante_node.specs.declared.fault.InputKind.TheVariants as kinds
 use Rattle.ante_node.specs.declared.fault.InputFault.{InputFault}
+use Rattle.ante_node.specs.declared.fault.RequestFault.{RequestFault}
+use Rattle.ante_node.specs.declared.fault.RequestFault.TheVariants.{Words, Input}
 use Rattle.ante_node.specs.declared.fault.NodeFault.{NodeFault}
 use Rattle.ante_node.specs.declared.fault.NodeFault.TheVariants as faults
-use Rattle.ante_node.specs.declared.input.Asked.{Asked}
-use Rattle.ante_node.specs.Input.{asked_of}
-use Rattle.ante_node.specs.ReadOnly.{read_only}
+use Rattle.ante_node.specs.Requests.{node_fault}
 
 abbrev pub status_of : NodeFault → ℕ
 status_of faults.Nothing = 0
@@ -31,62 +28,58 @@ kind_text kinds.Varuint = codes "varuint"
 kind_text kinds.KeyKind = codes "keykind"
 kind_text kinds.Trailing = codes "trailing"
 
--- the line of status 2, and that of status 3
+-- the line that names a fault of the words, and one of the input
 unfoldable pub words_line : ℕ → List ℕ
 words_line at = codes "words " ++ (decimal at ++ codes "\n")
 
 unfoldable pub input_line : InputFault → List ℕ
 input_line fault = codes "input " ++ (decimal fault.at ++ (codes " " ++ (kind_text fault.kind ++ codes "\n")))
 
--- The answer to a transaction: the text of the trace that it gives at position 0 on the built-in genesis, and a newline.
-unfoldable pub answer : Asked → List ℕ
-answer asked = trace_json (read_only 0 (genesis_head builtin_genesis) asked.packed asked.trx) ++ codes "\n"
+abbrev pub fault_line : RequestFault → List ℕ
+fault_line (Words at) = words_line at
+fault_line (Input fault) = input_line fault
 
--- The line was written, or the sink failed and a front of it was.
-abbrev pub Reports : Option (List ℕ) → Option (List ℕ) → ℕ → ℕ → List ℕ → Type 0
-Reports before after faults_before faults_after line =
-    Appends before after line ⊎ (AppendsFront before after line × Rose faults_before faults_after)
+-- ---- the end that the words and the input lead to, where nothing else fails
 
--- ---- how the parts of a run end, by their fault; before and after are what was written
+abbrev pub fault_of : Result (List ℕ) RequestFault → NodeFault
+fault_of (Ok text) = faults.Nothing
+fault_of (Err fault) = node_fault fault
 
-abbrev pub WordsEnd : NodeFault → ℕ → Option (List ℕ) → Option (List ℕ) → ℕ → ℕ → Type 0
-WordsEnd (faults.BadWords at) bad before after sink_before sink_after = (at ≡ bad) × Reports before after sink_before sink_after (words_line bad)
-WordsEnd faults.OutOfMemory bad before after sink_before sink_after = after ≡ before
-WordsEnd faults.Nothing bad before after sink_before sink_after = ⊥
-WordsEnd (faults.BadInput at kind) bad before after sink_before sink_after = ⊥
-WordsEnd faults.SourceFault bad before after sink_before sink_after = ⊥
-WordsEnd faults.SinkFault bad before after sink_before sink_after = ⊥
+abbrev pub text_of : Result (List ℕ) RequestFault → List ℕ
+text_of (Ok text) = text
+text_of (Err fault) = fault_line fault
 
-abbrev pub InputEnds : NodeFault → InputFault → Option (List ℕ) → Option (List ℕ) → ℕ → ℕ → Type 0
-InputEnds (faults.BadInput at kind) bad before after sink_before sink_after =
-    (bad ≡ record { at = at; kind = kind }) × Reports before after sink_before sink_after (input_line bad)
-InputEnds faults.OutOfMemory bad before after sink_before sink_after = after ≡ before
-InputEnds faults.Nothing bad before after sink_before sink_after = ⊥
-InputEnds (faults.BadWords at) bad before after sink_before sink_after = ⊥
-InputEnds faults.SourceFault bad before after sink_before sink_after = ⊥
-InputEnds faults.SinkFault bad before after sink_before sink_after = ⊥
+-- The fault where the sink failed under that text: a fault of the request stays.
+abbrev pub cut_fault : Result (List ℕ) RequestFault → NodeFault
+cut_fault (Ok text) = faults.SinkFault
+cut_fault (Err fault) = node_fault fault
 
-abbrev pub AnswerEnds : NodeFault → Asked → Option (List ℕ) → Option (List ℕ) → ℕ → ℕ → Type 0
-AnswerEnds faults.Nothing asked before after sink_before sink_after = Appends before after (answer asked)
-AnswerEnds faults.SinkFault asked before after sink_before sink_after = Rose sink_before sink_after × AppendsFront before after (answer asked)
-AnswerEnds faults.OutOfMemory asked before after sink_before sink_after = after ≡ before
-AnswerEnds (faults.BadWords at) asked before after sink_before sink_after = ⊥
-AnswerEnds (faults.BadInput at kind) asked before after sink_before sink_after = ⊥
-AnswerEnds faults.SourceFault asked before after sink_before sink_after = ⊥
+-- ---- and the end that a run has
 
--- what the source tells asks for this transaction
-abbrev pub Tells : Option (List ℕ) → Result Asked InputFault → Type 0
-Tells left asked = IfSome left (λ input. asked_of input ≡ asked)
+-- Which fault: that one, unless the sink, the source or memory failed before.
+abbrev pub EndsWith : NodeFault → Type 0 → Type 0 → Result (List ℕ) RequestFault → Type 0
+EndsWith fault SourceRose SinkRose made =
+    (fault ≡ fault_of made)
+    ⊎ ((fault ≡ faults.SinkFault) × SinkRose)
+    ⊎ ((fault ≡ faults.SourceFault) × SourceRose)
+    ⊎ (fault ≡ faults.OutOfMemory)
 
-abbrev pub AskEnds : NodeFault → Option (List ℕ) → Option (List ℕ) → ℕ → ℕ → Option (List ℕ) → Option (List ℕ) → ℕ → ℕ → Type 0
-AskEnds faults.Nothing left rest source_before source_after before after sink_before sink_after =
-    IsAtEnd rest × ((asked : Asked) × Tells left (Ok asked) × Appends before after (answer asked))
-AskEnds (faults.BadInput at kind) left rest source_before source_after before after sink_before sink_after =
-    let bad : InputFault = record { at = at; kind = kind } in
-    Tells left (Err bad) × Reports before after sink_before sink_after (input_line bad)
-AskEnds faults.SourceFault left rest source_before source_after before after sink_before sink_after =
-    Rose source_before source_after × (after ≡ before)
-AskEnds faults.SinkFault left rest source_before source_after before after sink_before sink_after =
-    Rose sink_before sink_after × ((asked : Asked) × Tells left (Ok asked) × AppendsFront before after (answer asked))
-AskEnds faults.OutOfMemory left rest source_before source_after before after sink_before sink_after = after ≡ before
-AskEnds (faults.BadWords at) left rest source_before source_after before after sink_before sink_after = ⊥
+-- What was written: all of the text; or a front of it, and then the sink failed; or nothing, as there was no text.
+abbrev pub HasWritten : NodeFault → Option (List ℕ) → Option (List ℕ) → Type 0 → Result (List ℕ) RequestFault → Type 0
+HasWritten fault before after SinkRose made =
+    ((fault ≡ fault_of made) × Appends before after (text_of made))
+    ⊎ ((fault ≡ cut_fault made) × AppendsFront before after (text_of made) × SinkRose)
+    ⊎ (((fault ≡ faults.SourceFault) ⊎ (fault ≡ faults.OutOfMemory)) × (after ≡ before))
+
+-- How a run has ended: all was written; the sink failed in the middle; the source failed before; memory ran out before.
+abbrev pub RunEnds : NodeFault → Type 0 → Option (List ℕ) → Option (List ℕ) → Type 0 → Type 0 → Result (List ℕ) RequestFault → Type 0
+RunEnds fault SourceRose before after SinkRose AtEnd made =
+    ((fault ≡ fault_of made) × Appends before after (text_of made) × (fault ≡ faults.Nothing → AtEnd))
+    ⊎ ((fault ≡ cut_fault made) × AppendsFront before after (text_of made) × SinkRose)
+    ⊎ ((fault ≡ faults.SourceFault) × (after ≡ before) × SourceRose)
+    ⊎ ((fault ≡ faults.OutOfMemory) × (after ≡ before))
+
+-- All of a text was written, or a front of it and the sink failed, and the fault says which.
+abbrev pub Delivers : List ℕ → NodeFault → NodeFault → NodeFault → Option (List ℕ) → Option (List ℕ) → Type 0 → Type 0
+Delivers text whole cut fault before after SinkRose =
+    ((fault ≡ whole) × Appends before after text) ⊎ ((fault ≡ cut) × AppendsFront before after text × SinkRose)

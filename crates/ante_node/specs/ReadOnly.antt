@@ -1,6 +1,5 @@
--- What a read-only transaction gives on the built-in genesis, where the system's account is the only one and no account
--- has code.
-use Rattle.std.specs.Prelude.{ℕ, ◌+◌, List, [], ◌∷◌, length, codes, Bool, not, ◌&&◌, ◌==◌, nat_lt, Option, Some, None, option_map, if◌then◌else◌}
+-- What a read-only transaction gives in a world where no account has code, as in that of the built-in genesis.
+use Rattle.std.specs.Prelude.{ℕ, ◌+◌, List, [], ◌∷◌, length, codes, Bool, true, not, ◌&&◌, ◌==◌, nat_lt, Option, Some, None, option_map, if◌then◌else◌}
 use Rattle.std.specs.List.{list_any, position}
 use Rattle.sha2.specs.Sha256.{sha256}
 use Rattle.ante_pack.specs.declared.names.Name.{Name}
@@ -12,13 +11,39 @@ use Rattle.ante_types.specs.declared.trace.ActionTrace.{ActionTrace}
 use Rattle.ante_types.specs.declared.trace.Trace.{Trace}
 use Rattle.ante_types.specs.declared.failure.Failure.{Failure}
 use Rattle.ante_types.specs.declared.failure.Failure.TheVariants.{NoAction, Unsupported, TooBig, HasAuthorization, UnknownAccount, WriteRefused}
-use Rattle.ante_types.specs.Genesis.{eosio}
+use Rattle.ante_types.specs.Genesis.{builtin_authority, builtin_genesis, eosio, genesis_head}
+use Rattle.ante_types.specs.World.{World}
+use Rattle.ante_node.specs.Jobs.{Job}
+use Rattle.ante_node.specs.Limits.{trx_limit}
+
+-- ---- the world
+
+-- an account with this name is there
+abbrev pub is_there : World → Name → Bool
+is_there world name = list_any (λ e. name.0 == e.0.0) world.accounts
+
+abbrev permission_name : List ℕ → Name
+permission_name text = record { 0 = name_number text }
+
+abbrev no_name : Name
+no_name = record { 0 = 0 }
+
+-- the world of the built-in genesis: the system's account with its two permissions, and genesis itself as a reference
+abbrev pub builtin_world : World
+builtin_world = record {
+  accounts = (eosio, record { payer = eosio; privileged = true; code = []; abi = [] }) ∷ [];
+  permissions =
+      (record { actor = eosio; permission = permission_name (codes "active") }, record { parent = permission_name (codes "owner"); authority = builtin_authority })
+      ∷ (record { actor = eosio; permission = permission_name (codes "owner") }, record { parent = no_name; authority = builtin_authority }) ∷ [];
+  links = [];
+  quotas = [];
+  recent = [];
+  references = (1, (genesis_head builtin_genesis).id) ∷ [];
+  tables = [];
+  rows = [];
+}
 
 -- ---- the checks
-
--- more bytes than this are too big for a transaction
-abbrev pub size_limit : ℕ
-size_limit = 1500000
 
 abbrev pub first_some : {B : Type 0} → Option B → Option B → Option B
 first_some (Some b) other = Some b
@@ -29,29 +54,27 @@ unfoldable pub first_where : {A B : Type 0} → (A → Option B) → List A → 
 first_where f [] = None
 first_where f (x ∷ xs) = first_some (f x) (first_where f xs)
 
-abbrev pub is_there : Name → Bool
-is_there n = n.0 == eosio.0
-
 abbrev pub has_level : Action → Bool
 has_level a = not (length a.authorization == 0)
 
-abbrev pub unknown_account : Action → Option Name
-unknown_account a = if is_there a.account then None else Some a.account
+abbrev pub unknown_account : World → Action → Option Name
+unknown_account world a = if is_there world a.account then None else Some a.account
 
 -- no action has a level, and each action's account is there
-unfoldable pub account_failure : List Action → Option Failure
-account_failure actions = first_some (option_map HasAuthorization (position has_level actions)) (option_map UnknownAccount (first_where unknown_account actions))
+unfoldable pub account_failure : World → List Action → Option Failure
+account_failure world actions =
+    first_some (option_map HasAuthorization (position has_level actions)) (option_map UnknownAccount (first_where (unknown_account world) actions))
 
 -- The first check that fails, in this order: an action is there; nothing is used that isn't supported; the packed bytes
 -- aren't too many; no action has a level; each action's account is there.
-unfoldable pub check_failure : ℕ → Transaction → Option Failure
-check_failure size t =
+unfoldable pub check_failure : World → ℕ → Transaction → Option Failure
+check_failure world size t =
     if length t.actions == 0 then Some NoAction
     else if not (length t.context_free_actions == 0) then Some (Unsupported (record { 0 = codes "context_free_actions" }))
     else if not (t.delay_sec == 0) then Some (Unsupported (record { 0 = codes "delay_sec" }))
     else if not (length t.extensions == 0) then Some (Unsupported (record { 0 = codes "extensions" }))
-    else if nat_lt size_limit size then Some TooBig
-    else account_failure t.actions
+    else if nat_lt trx_limit size then Some TooBig
+    else account_failure world t.actions
 
 -- ---- the runs
 
@@ -90,10 +113,10 @@ abbrev pub trace_of : ℕ → Head → List ℕ → Option Failure → List Acti
 trace_of position head packed failure runs =
     record { position = position; head = head; id = sha256 packed; failure = failure; steps = length runs; actions = runs }
 
-abbrev pub checked_trace : Option Failure → ℕ → Head → List ℕ → Transaction → Trace
-checked_trace (Some failure) position head packed t = trace_of position head packed (Some failure) []
-checked_trace None position head packed t = trace_of position head packed (first_where write_refused t.actions) (runs_from 1 t.actions)
+abbrev pub checked_trace : Option Failure → ℕ → Head → Job → Trace
+checked_trace (Some failure) position head job = trace_of position head job.packed (Some failure) []
+checked_trace None position head job = trace_of position head job.packed (first_where write_refused job.trx.actions) (runs_from 1 job.trx.actions)
 
--- The trace of a read-only transaction at a head. It depends on nothing else.
-unfoldable pub read_only : ℕ → Head → List ℕ → Transaction → Trace
-read_only position head packed t = checked_trace (check_failure (length packed) t) position head packed t
+-- The trace of a read-only transaction in a world at a head. It depends on nothing else.
+unfoldable pub read_only : World → ℕ → Head → Job → Trace
+read_only world position head job = checked_trace (check_failure world (length job.packed) job.trx) position head job

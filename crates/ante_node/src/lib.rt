@@ -2,12 +2,15 @@
 #![tactic(auto)]
 
 mod ask;
+mod command;
+mod failure;
 mod fault;
-mod input;
+mod job;
+mod limits;
+mod lines;
 mod node;
 mod read_only;
 mod report;
-mod words;
 
 pub use fault::{InputFault, InputKind, NodeEnd, NodeFault};
-pub use node::run_node;
+pub use node::{OfflineEnd, run_node, run_offline};

@@ -1,21 +1,33 @@
-ghost use Rattle.std.specs.Prelude.{◌≡◌, ◌⊎◌, ℕ, map, string_bytes, Ok, Err};
+ghost use Rattle.std.specs.Prelude.{◌≡◌, ◌⊎◌, ℕ, [], map, string_bytes, Err, IfOk};
 ghost use Rattle.std.specs.Io.KnownBytes.{Appends, IsAtEnd};
 ghost use Rattle.ante_base.specs.Faults.{Rose};
 ghost use Rattle.ante_base.specs.Source.{TakesAtMost};
-ghost use Rattle.ante_base.specs.Sink.{AppendsFront};
-ghost use Rattle.ante_node.specs.declared.fault.InputFault.{InputFault};
-ghost use Rattle.ante_node.specs.declared.input.Asked.{Asked};
-ghost use Rattle.ante_node.specs.Input.{HasFewActions};
-ghost use Rattle.ante_node.specs.Words.{IsBadWord};
-ghost use Rattle.ante_node.specs.Ends.{AnswerEnds, AskEnds, InputEnds, Reports, Tells, WordsEnd, answer, input_line, status_of, words_line};
+ghost use Rattle.ante_node.specs.Jobs.{Job};
+ghost use Rattle.ante_node.specs.Ask.{Asks, answer};
+ghost use Rattle.ante_node.specs.Commands.{ComesTo, IsBadWord, MadeOf};
+ghost use Rattle.ante_node.specs.Ends.{EndsWith, HasWritten, RunEnds, status_of};
+ghost use Rattle.ante_node.specs.Limits.{input_limit};
+ghost use Rattle.ante_node.specs.Requests.{Answers, requested};
 
-use crate::ask::{Refused, answer, read_input};
-use crate::fault::{InputFault, NodeEnd, NodeFault};
-use crate::input::Asked;
-use crate::report::{input_line, report, words_line};
-use crate::words::bad_word;
-use ante_base::{Sink, Source, write_all};
+use crate::ask::ask;
+use crate::command::{Command, read_command};
+use crate::failure::AnswerFailure;
+use crate::fault::{NodeEnd, NodeFault, RequestFault};
+use crate::report::{deliver, fault_line};
+use ante_base::{Sink, Source};
+use ante_pack::{Bytes, Seq};
+use ante_types::Head;
 use std::alloc::Global;
+
+/// How a run of a command that waits for nobody ended.
+#[derive(Debug, Drop)]
+pub struct OfflineEnd {
+    /// The status of the program.
+    pub status: u8,
+    pub fault: NodeFault,
+    /// The blocks that were applied: none under `ask`.
+    pub applied: Seq<Head>,
+}
 
 fn status_of(fault: NodeFault) -> u8
     ensures { result ≡ status_of fault }
@@ -30,72 +42,98 @@ fn status_of(fault: NodeFault) -> u8
     }
 }
 
-fn refuse_words<S: Sink>(alloc: Global, out: &mut S, at: u64) -> NodeFault
-    ensures { WordsEnd result at (S.written out.old) (S.written out.new) (S.faults out.old) (S.faults out.new) }
+/// The text that a command answers to its input.
+fn answer<R: Source>(alloc: Global, command: Command, files: &mut R) -> Result<Bytes, AnswerFailure>
+    ensures made { MadeOf command (R.left files.old) (λ made. Answers result made (Rose (R.faults files.old) (R.faults files.new))) }
+    ensures ended { IfOk result (λ _. IsAtEnd (R.left files.new)) }
+    ensures bounded { TakesAtMost input_limit (R.left files.old) (R.left files.new) }
 {
-    match words_line(alloc, at) {
-        Ok(line) => {
-            report(out, line.as_slice());
-            NodeFault::BadWords { at }
-        }
+    match command {
+        Command::Ask => ask(alloc, files),
+    }
+}
+
+/// Names a fault of the request in a line.
+fn refuse<S: Sink>(alloc: Global, out: &mut S, fault: RequestFault) -> NodeFault
+    ensures { RunEnds result ⊥ (S.written out.old) (S.written out.new) (Rose (S.faults out.old) (S.faults out.new)) ⊥ (Err fault) }
+{
+    let blamed = NodeFault::from(fault);
+    match fault_line(alloc, fault) {
+        Ok(line) => deliver(out, line.as_slice(), blamed, blamed),
         Err(_) => NodeFault::OutOfMemory,
     }
 }
 
-fn refuse_input<S: Sink>(alloc: Global, out: &mut S, fault: InputFault) -> NodeFault
-    ensures { InputEnds result fault (S.written out.old) (S.written out.new) (S.faults out.old) (S.faults out.new) }
+/// Writes what a command makes of its input.
+fn perform<R: Source, S: Sink>(
+    alloc: Global,
+    command: Command,
+    files: &mut R,
+    out: &mut S,
+) -> NodeFault
+    ensures ends { MadeOf command (R.left files.old) (λ made. RunEnds result (Rose (R.faults files.old) (R.faults files.new)) (S.written out.old) (S.written out.new)
+        (Rose (S.faults out.old) (S.faults out.new)) (IsAtEnd (R.left files.new)) (requested made)) }
+    ensures bounded { TakesAtMost input_limit (R.left files.old) (R.left files.new) }
 {
-    match input_line(alloc, fault) {
-        Ok(line) => {
-            report(out, line.as_slice());
-            NodeFault::BadInput {
-                at: fault.at,
-                kind: fault.kind,
-            }
-        }
-        Err(_) => NodeFault::OutOfMemory,
+    match answer(alloc, command, files) {
+        Ok(text) => deliver(
+            out,
+            text.as_slice(),
+            NodeFault::Nothing,
+            NodeFault::SinkFault,
+        ),
+        Err(AnswerFailure::Input(fault)) => refuse(alloc, out, RequestFault::Input(fault)),
+        Err(AnswerFailure::SourceFault) => NodeFault::SourceFault,
+        Err(AnswerFailure::OutOfMemory) => NodeFault::OutOfMemory,
     }
 }
 
-fn deliver<S: Sink>(alloc: Global, out: &mut S, asked: &Asked) -> NodeFault
-    requires { HasFewActions asked.now }
-    ensures { AnswerEnds result asked.now (S.written out.old) (S.written out.new) (S.faults out.old) (S.faults out.new) }
+fn run<R: Source, S: Sink>(alloc: Global, words: &[String], files: &mut R, out: &mut S) -> NodeFault
+    ensures ends { ComesTo (map string_bytes words.now) (R.left files.old) (RunEnds result (Rose (R.faults files.old) (R.faults files.new))
+        (S.written out.old) (S.written out.new) (Rose (S.faults out.old) (S.faults out.new)) (IsAtEnd (R.left files.new))) }
+    ensures bad_words { (at : ℕ) → IsBadWord (map string_bytes words.now) at → (result ≡ NodeFault.BadWords at) ⊎ (result ≡ NodeFault.OutOfMemory) }
+    ensures untouched { (at : ℕ) → IsBadWord (map string_bytes words.now) at → files.new ≡ files.old }
+    ensures bounded { TakesAtMost input_limit (R.left files.old) (R.left files.new) }
 {
-    match answer(alloc, asked) {
-        Ok(text) => match write_all(out, text.as_slice()) {
-            Ok(()) => NodeFault::Nothing,
-            Err(_) => NodeFault::SinkFault,
-        },
-        Err(_) => NodeFault::OutOfMemory,
+    match read_command(words) {
+        Ok(command) => perform(alloc, command, files, out),
+        Err(at) => refuse(alloc, out, RequestFault::Words { at }),
     }
 }
 
-fn ask<R: Source, S: Sink>(alloc: Global, files: &mut R, out: &mut S) -> NodeFault
-    ensures end { AskEnds result (R.left files.old) (R.left files.new) (R.faults files.old) (R.faults files.new)
-        (S.written out.old) (S.written out.new) (S.faults out.old) (S.faults out.new) }
-    ensures bounded { TakesAtMost 33554434 (R.left files.old) (R.left files.new) }
-{
-    match read_input(alloc, files) {
-        Ok(asked) => deliver(alloc, out, &asked),
-        Err(Refused::Input(fault)) => refuse_input(alloc, out, fault),
-        Err(Refused::SourceFault) => NodeFault::SourceFault,
-        Err(Refused::OutOfMemory) => NodeFault::OutOfMemory,
-    }
-}
+/// Does what the words say, where that waits for nobody: `ask` reads one packed transaction in hex, perhaps with a newline
+/// behind it, and writes the text of the trace that it gives on the built-in genesis, and a newline. Words or an input
+/// that aren't accepted are named in a line.
+pub fn run_offline<R: Source, S: Sink>(
+    alloc: Global,
+    words: &[String],
+    files: &mut R,
+    out: &mut S,
+) -> OfflineEnd
+    ensures status { result.status ≡ status_of result.fault }
+    ensures applied { result.applied ≡ [] }
 
-fn end_of(fault: NodeFault) -> NodeEnd
-    ensures fault { result.fault ≡ fault }
-    ensures status { result.status ≡ status_of fault }
+    // Which fault, and what was written.
+    ensures fault { ComesTo (map string_bytes words.now) (R.left files.old) (EndsWith result.fault (Rose (R.faults files.old) (R.faults files.new)) (Rose (S.faults out.old) (S.faults out.new))) }
+    ensures written { ComesTo (map string_bytes words.now) (R.left files.old) (HasWritten result.fault (S.written out.old) (S.written out.new) (Rose (S.faults out.old) (S.faults out.new))) }
+
+    ensures ended { result.fault ≡ NodeFault.Nothing → IsAtEnd (R.left files.new) }
+
+    // Words are refused exactly where they aren't accepted, and then the source stands as it was.
+    ensures bad_words { (at : ℕ) → IsBadWord (map string_bytes words.now) at → (result.fault ≡ NodeFault.BadWords at) ⊎ (result.fault ≡ NodeFault.OutOfMemory) }
+    ensures untouched { (at : ℕ) → IsBadWord (map string_bytes words.now) at → files.new ≡ files.old }
+    ensures bounded { TakesAtMost input_limit (R.left files.old) (R.left files.new) }
 {
-    NodeEnd {
+    let fault = run(alloc, words, files, out);
+    OfflineEnd {
         status: status_of(fault),
         fault,
+        applied: Seq::new(alloc),
     }
 }
 
-/// Does what the words say: `ask` reads one packed transaction in hex, perhaps with a newline behind it, and writes the
-/// text of the trace that it gives on the built-in genesis, and a newline. Words or an input that aren't accepted are
-/// named in a line.
+/// Does what the words say. Each command of today waits for nobody, so it goes through `run_offline`, as words that aren't
+/// accepted do.
 pub fn run_node<R: Source, S: Sink>(
     alloc: Global,
     words: &[String],
@@ -106,23 +144,21 @@ pub fn run_node<R: Source, S: Sink>(
 
     // The headline: where all went well, the input was read to its end, and what was written is the text of the trace that
     // its transaction gives alone on the built-in genesis.
-    ensures answered { result.fault ≡ NodeFault.Nothing → IsAtEnd (R.left files.new) × ((asked : Asked) × Tells (R.left files.old) (Ok asked) × Appends (S.written out.old) (S.written out.new) (answer asked)) }
+    ensures answered { result.fault ≡ NodeFault.Nothing → IsAtEnd (R.left files.new) × ((job : Job) × Asks (R.left files.old) job × Appends (S.written out.old) (S.written out.new) (answer job)) }
 
-    // Words are refused exactly where they aren't accepted.
-    ensures words { (at : ℕ) → result.fault ≡ NodeFault.BadWords at → IsBadWord (map string_bytes words.now) at × Reports (S.written out.old) (S.written out.new) (S.faults out.old) (S.faults out.new) (words_line at) }
+    // Which fault, and what was written. A source or a sink is blamed only where its count of faults rose.
+    ensures fault { ComesTo (map string_bytes words.now) (R.left files.old) (EndsWith result.fault (Rose (R.faults files.old) (R.faults files.new)) (Rose (S.faults out.old) (S.faults out.new))) }
+    ensures written { ComesTo (map string_bytes words.now) (R.left files.old) (HasWritten result.fault (S.written out.old) (S.written out.new) (Rose (S.faults out.old) (S.faults out.new))) }
+
+    // Words are refused exactly where they aren't accepted, and then the source stands as it was.
     ensures bad_words { (at : ℕ) → IsBadWord (map string_bytes words.now) at → (result.fault ≡ NodeFault.BadWords at) ⊎ (result.fault ≡ NodeFault.OutOfMemory) }
+    ensures untouched { (at : ℕ) → IsBadWord (map string_bytes words.now) at → files.new ≡ files.old }
 
-    // An input is refused only where it asks for nothing, with the fault that is found first.
-    ensures input { (bad : InputFault) → result.fault ≡ NodeFault.BadInput bad.at bad.kind → Tells (R.left files.old) (Err bad) × Reports (S.written out.old) (S.written out.new) (S.faults out.old) (S.faults out.new) (input_line bad) }
-
-    // A source or a sink is blamed only where its count of faults rose.
-    ensures source { result.fault ≡ NodeFault.SourceFault → Rose (R.faults files.old) (R.faults files.new) × (S.written out.new ≡ S.written out.old) }
-    ensures sink { result.fault ≡ NodeFault.SinkFault → Rose (S.faults out.old) (S.faults out.new) × ((asked : Asked) × Tells (R.left files.old) (Ok asked) × AppendsFront (S.written out.old) (S.written out.new) (answer asked)) }
-    ensures memory { result.fault ≡ NodeFault.OutOfMemory → S.written out.new ≡ S.written out.old }
-    ensures bounded { TakesAtMost 33554434 (R.left files.old) (R.left files.new) }
+    ensures bounded { TakesAtMost input_limit (R.left files.old) (R.left files.new) }
 {
-    if let Some(at) = bad_word(words) {
-        return end_of(refuse_words(alloc, out, at));
+    let end = run_offline(alloc, words, files, out);
+    NodeEnd {
+        status: end.status,
+        fault: end.fault,
     }
-    end_of(ask(alloc, files, out))
 }

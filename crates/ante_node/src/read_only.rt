@@ -2,17 +2,16 @@ ghost use Rattle.std.specs.Prelude.{◌≡◌, ◌<◌, ◌^◌, length, IfOk};
 ghost use Rattle.std.specs.Prelude.{◌==◌};
 ghost use Rattle.std.specs.List.{list_any};
 ghost use Rattle.ante_pack.specs.Names.{name_number, name_text};
+ghost use Rattle.ante_types.specs.Genesis.{eosio};
 ghost use Rattle.ante_types.specs.declared.failure.Failure.TheVariants.{Unsupported, WriteRefused};
 ghost use Rattle.std.specs.List.{position};
-ghost use Rattle.ante_node.specs.ReadOnly.{account_failure, check_failure, first_where, has_level, is_native, is_there, native_names, read_only, run_of, runs_from, unknown_account, write_refused};
+ghost use Rattle.ante_node.specs.ReadOnly.{account_failure, builtin_world, check_failure, first_where, has_level, is_native, is_there, native_names, read_only, run_of, runs_from, unknown_account, write_refused};
 
-use crate::input::Asked;
+use crate::job::ReadJob;
+use crate::limits::TRX_LIMIT;
 use ante_pack::{Bytes, Name, Seq, name_text};
 use ante_types::{Action, ActionTrace, EOSIO, Failure, Head, Label, Trace, Transaction, trx_id};
 use std::alloc::{AllocError, Global};
-
-/// More packed bytes than this are too big for a transaction.
-const SIZE_LIMIT: usize = 1_500_000;
 
 /// The actions that the system's account does itself: newaccount, setcode, setabi, updateauth, deleteauth, linkauth and
 /// unlinkauth.
@@ -27,10 +26,17 @@ const NATIVE_NAMES: [u64; 7] = [
 ];
 
 #[tactic(auto, unfolding(ante_pack::specs::Names::name_number, ante_pack::specs::Names::number_of))]
-fn is_there(name: Name) -> bool
-    ensures { result ≡ is_there name }
+fn is_system(name: Name) -> bool
+    ensures { result ≡ (name.0 == eosio.0) }
 {
     name.0 == EOSIO.0
+}
+
+/// The system's account is the only one.
+fn is_there(name: Name) -> bool
+    ensures { result ≡ is_there builtin_world name }
+{
+    is_system(name)
 }
 
 #[tactic(auto, unfolding(ante_pack::specs::Names::name_number, ante_pack::specs::Names::number_of))]
@@ -43,7 +49,7 @@ fn is_native_name(name: u64) -> bool
 fn is_native(action: &Action) -> bool
     ensures { result ≡ is_native action.now }
 {
-    if !is_there(action.account) {
+    if !is_system(action.account) {
         return false;
     }
     is_native_name(action.name.0)
@@ -77,7 +83,7 @@ fn first_authorized(actions: &[Action]) -> Option<u32>
 
 /// The first account that isn't there.
 fn first_unknown(actions: &[Action]) -> Option<Name>
-    ensures { result ≡ first_where unknown_account actions.now }
+    ensures { result ≡ first_where (unknown_account builtin_world) actions.now }
 {
     for action in actions {
         if !is_there(action.account) {
@@ -90,7 +96,7 @@ fn first_unknown(actions: &[Action]) -> Option<Name>
 #[tactic(auto, unfolding(crate::specs::ReadOnly::account_failure))]
 fn account_failure(actions: &[Action]) -> Option<Failure>
     requires { length actions.now < 2 ^ 32 }
-    ensures { result ≡ account_failure actions.now }
+    ensures { result ≡ account_failure builtin_world actions.now }
 {
     match first_authorized(actions) {
         Some(action) => Some(Failure::HasAuthorization { action }),
@@ -109,7 +115,7 @@ fn check_failure(
     trx: &Transaction,
 ) -> Result<Option<Failure>, AllocError>
     requires { length trx.now.actions < 2 ^ 32 }
-    ensures { IfOk result (λ f. f ≡ check_failure size trx.now) }
+    ensures { IfOk result (λ f. f ≡ check_failure builtin_world size trx.now) }
 {
     if trx.actions.len() == 0 {
         return Ok(Some(Failure::NoAction));
@@ -123,7 +129,7 @@ fn check_failure(
     if trx.extensions.len() != 0 {
         return unsupported(alloc, b"extensions");
     }
-    if size > SIZE_LIMIT {
+    if size > TRX_LIMIT {
         return Ok(Some(Failure::TooBig));
     }
     Ok(account_failure(trx.actions.as_slice()))
@@ -182,17 +188,17 @@ pub fn read_only(
     alloc: Global,
     position: u64,
     head: Head,
-    asked: &Asked,
+    job: &ReadJob,
 ) -> Result<Trace, AllocError>
-    requires { length asked.now.trx.actions < 2 ^ 32 }
-    ensures { IfOk result (λ trace. trace ≡ read_only position head asked.now.packed asked.now.trx) }
+    ensures { IfOk result (λ trace. trace ≡ read_only builtin_world position head job.now) }
 {
-    let packed = asked.packed.as_slice();
+    let packed = job.packed().as_slice();
+    let trx = job.trx();
     let id = trx_id(packed);
-    let failed = check_failure(alloc, packed.len(), &asked.trx)?;
+    let failed = check_failure(alloc, packed.len(), trx)?;
     let (actions, failure) = match failed {
         Some(failure) => (Seq::new(alloc), Some(failure)),
-        None => run_actions(alloc, asked.trx.actions.as_slice())?,
+        None => run_actions(alloc, trx.actions.as_slice())?,
     };
     Ok(Trace {
         position,

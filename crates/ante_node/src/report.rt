@@ -1,9 +1,9 @@
-ghost use Rattle.std.specs.Prelude.{◌≡◌, ◌≤◌, IfOk};
-ghost use Rattle.ante_node.specs.Ends.{Reports, input_line, kind_text, words_line};
-ghost use Rattle.ante_node.specs.declared.fault.InputFault.{InputFault};
+ghost use Rattle.std.specs.Prelude.{◌≡◌, IfOk};
+ghost use Rattle.ante_base.specs.Faults.{Rose};
+ghost use Rattle.ante_node.specs.Ends.{Delivers, fault_line, input_line, kind_text, words_line};
 
-use crate::fault::{InputFault, InputKind};
-use ante_base::{Sink, write_all};
+use crate::fault::{InputFault, InputKind, NodeFault, RequestFault};
+use ante_base::{Sink, SinkFailed, write_all};
 use ante_pack::Bytes;
 use itoa::Buffer;
 use std::alloc::{AllocError, Global};
@@ -24,7 +24,7 @@ fn kind_text(kind: InputKind) -> &'static [u8]
 
 /// The line that names a word that isn't accepted.
 #[tactic(auto, unfolding(crate::specs::Ends::words_line))]
-pub fn words_line(alloc: Global, at: u64) -> Result<Bytes, AllocError>
+fn words_line(alloc: Global, at: u64) -> Result<Bytes, AllocError>
     ensures { IfOk result (λ line. line ≡ words_line at) }
 {
     let mut buffer = Buffer::new();
@@ -37,7 +37,7 @@ pub fn words_line(alloc: Global, at: u64) -> Result<Bytes, AllocError>
 
 /// The line that names a fault of the input.
 #[tactic(auto, unfolding(crate::specs::Ends::input_line))]
-pub fn input_line(alloc: Global, fault: InputFault) -> Result<Bytes, AllocError>
+fn input_line(alloc: Global, fault: InputFault) -> Result<Bytes, AllocError>
     ensures { IfOk result (λ line. line ≡ input_line fault) }
 {
     let mut buffer = Buffer::new();
@@ -50,10 +50,22 @@ pub fn input_line(alloc: Global, fault: InputFault) -> Result<Bytes, AllocError>
     Ok(line)
 }
 
-/// Writes a line where the status is settled already: a sink that fails changes nothing of it.
-pub fn report<S: Sink>(out: &mut S, line: &[u8])
-    ensures line { Reports (S.written out.old) (S.written out.new) (S.faults out.old) (S.faults out.new) line.now }
-    ensures later { S.faults out.old ≤ S.faults out.new }
+/// The line that names a fault of a request.
+pub fn fault_line(alloc: Global, fault: RequestFault) -> Result<Bytes, AllocError>
+    ensures { IfOk result (λ line. line ≡ fault_line fault) }
 {
-    let _ = write_all(out, line);
+    match fault {
+        RequestFault::Words { at } => words_line(alloc, at),
+        RequestFault::Input(fault) => input_line(alloc, fault),
+    }
+}
+
+/// Writes a text. Answers `whole` where all of it was written, and `cut` where the sink failed before.
+pub fn deliver<S: Sink>(out: &mut S, text: &[u8], whole: NodeFault, cut: NodeFault) -> NodeFault
+    ensures { Delivers text.now whole cut result (S.written out.old) (S.written out.new) (Rose (S.faults out.old) (S.faults out.new)) }
+{
+    match write_all(out, text) {
+        Ok(()) => whole,
+        Err(SinkFailed) => cut,
+    }
 }

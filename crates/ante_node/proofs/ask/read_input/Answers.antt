@@ -1,22 +1,21 @@
-use Rattle.std.proofs.Common.{◌≡◌, Err, subst}
-use Rattle.ante_node.specs.declared.fault.InputFault.{InputFault}
-use Rattle.ante_node.specs.Ends.{Tells}
-use Rattle.ante_node.proofs.Lines.{whole_asks, ended_if_asked}
+use Rattle.std.proofs.Common.{ap, Err}
+use Rattle.std.proofs.lemmas.Result.{err_from_is_err_and}
+use Rattle.ante_base.specs.declared.failure.ReadFailure.{ReadFailure}
+use Rattle.ante_node.proofs.FirstLine.{answers_so, ended_so, failed_answers, some_input, whole_asks}
 use Rattle.ante_node.proofs.ask.read_input.Goals as goal
 
-pub returns-in-Ok-read_asked-clause-asked : goal.returns-in-Ok-read_asked-clause-asked
-returns-in-Ok-read_asked-clause-asked g c =
-    whole_asks _ _ c.in-Ok.front.bytes.items c.in-Ok.front.ended _ c.in-Ok.ensures.taken c.in-Ok.ensures.ended c.in-Ok.ensures.cut
-    (rw c.as_slice.ensures.value at c.in-Ok-read_asked.ensures.asked)
+pub returns-in_err-front-clause-asked : goal.returns-in_err-front-clause-asked
+returns-in_err-front-clause-asked g c =
+    let p = err_from_is_err_and c.from_residual.result c.from_residual.ensures.1 in
+    let input = some_input (g.R.Source.left c.args.files.now) in
+    (input.0, input.1, rw (p.1, p.2) (failed_answers c.in_err-front.field-0.0 _ _ (λ e. c.in_err-front.ensures.failed (ap (λ (f : ReadFailure). Err f) e))))
 
-pub returns-in-Ok-read_asked-clause-ended : goal.returns-in-Ok-read_asked-clause-ended
-returns-in-Ok-read_asked-clause-ended g c =
-    ended_if_asked _ c.in-Ok.front.bytes.items c.in-Ok.front.ended c.in-Ok-read_asked.asked c.in-Ok.ensures.ended c.in-Ok.ensures.cut
-    (rw c.as_slice.ensures.value at c.in-Ok-read_asked.ensures.asked)
+pub returns-clause-asked : goal.returns-clause-asked
+returns-clause-asked g c =
+    let whole = whole_asks _ _ c.in_ok-front.front.bytes.items c.in_ok-front.front.ended c.in_ok-front.ensures.taken c.in_ok-front.ensures.ended c.in_ok-front.ensures.cut in
+    (whole.0, whole.1, answers_so c.read_asked.result _ _ _ whole.2 (rw c.as_slice.ensures.value at c.read_asked.ensures))
 
-pub returns-in-Ok-clause-input : goal.returns-in-Ok-clause-input
-returns-in-Ok-clause-input g c = λ fault e.
-    let same : c.in-Err-Input.fault ≡ fault = cc in
-    subst (λ (f : InputFault). Tells (g.R.Source.left c.args.files.now) (Err f)) same
-    (whole_asks _ _ c.in-Ok.front.bytes.items c.in-Ok.front.ended _ c.in-Ok.ensures.taken c.in-Ok.ensures.ended c.in-Ok.ensures.cut
-    (rw (c.as_slice.ensures.value, c.in-Err-Input.field-0-is) at c.in-Err-Input.ensures.asked))
+pub returns-clause-ended : goal.returns-clause-ended
+returns-clause-ended g c =
+    ended_so c.read_asked.result _ c.in_ok-front.front.bytes.items c.in_ok-front.front.ended c.in_ok-front.ensures.ended c.in_ok-front.ensures.cut
+    (rw c.as_slice.ensures.value at c.read_asked.ensures)
