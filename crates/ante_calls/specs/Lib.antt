@@ -1,0 +1,21 @@
+-- To be read in this order: how a call is made up, what a run sees; iterators and what the calls on rows do; the other calls by subject; all
+-- calls by their numbers.
+pub mod Calls
+pub mod Accounts
+pub mod Views
+pub mod Iterators
+pub mod Kinds
+pub mod Rows
+pub mod RowReplies
+pub mod PrimaryCalls
+pub mod IndexCalls
+pub mod Control
+pub mod ActionData
+pub mod Authorization
+pub mod Console
+pub mod MemoryCalls
+pub mod Hashes
+pub mod WideIntegers
+pub mod ChainState
+pub mod System
+pub mod Numbers
