@@ -1,0 +1,8 @@
+//! What becomes of the state by actions, transactions and blocks, as definitions: authorities, native actions, runs, actions
+//! with all that they cause, transactions, read-only transactions, blocks. They stand in `specs/`; here are the types that they
+//! share with the crates above.
+#![tactic(auto)]
+
+mod kinds;
+
+pub use kinds::{NativeAction, Weighed};
