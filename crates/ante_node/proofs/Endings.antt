@@ -8,7 +8,7 @@ use Rattle.ante_node.specs.declared.fault.RequestFault.{RequestFault}
 use Rattle.ante_node.specs.declared.fault.RequestFault.TheVariants.{Words, Input}
 use Rattle.ante_node.specs.declared.fault.NodeFault.{NodeFault}
 use Rattle.ante_node.specs.declared.fault.NodeFault.TheVariants as faults
-use Rattle.ante_node.specs.Jobs.{Job}
+use Rattle.ante_types.specs.Jobs.{Job}
 use Rattle.ante_node.specs.Requests.{◌>>=◌, Tells, node_fault, requested}
 use Rattle.ante_node.specs.Ask.{Asks, answer, asked_of}
 use Rattle.ante_node.specs.Commands.{ComesTo, made_by}

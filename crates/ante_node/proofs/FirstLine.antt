@@ -13,7 +13,7 @@ use Rattle.hex.specs.Hex.{decode_of, is_hex_digit}
 use Rattle.hex.proofs.HexLemmas.{decode_of-err, decode_of-odd}
 use Rattle.ante_node.specs.declared.fault.InputFault.{InputFault}
 use Rattle.ante_node.specs.declared.fault.InputKind.TheVariants as kinds
-use Rattle.ante_node.specs.Jobs.{Job}
+use Rattle.ante_types.specs.Jobs.{Job}
 use Rattle.ante_node.specs.Limits.{item_limit, line_limit, input_limit}
 use Rattle.ante_node.specs.Lines.{TextLine, IsHexFault, bytes_in, decoded, hex_place, is_newline, job_in, line_at, line_end}
 use Rattle.ante_base.specs.declared.failure.ReadFailure.{ReadFailure}

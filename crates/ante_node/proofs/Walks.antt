@@ -68,7 +68,7 @@ unknown_yes world a there e absent = let test : is_there world a.account ≡ fal
 pub unknown_no : (world : World) (a : Action) (there : Bool) → there ≡ is_there world a.account → there ≡ true → unknown_account world a ≡ None
 unknown_no world a there e found = let test : is_there world a.account ≡ true = sym e ∙ found in rw test refl
 
-pub refused_yes : (a : Action) (native : Bool) → native ≡ is_native a → native ≡ true → write_refused a ≡ Some (WriteRefused (record { 0 = name_text a.name.0 }))
+pub refused_yes : (a : Action) (native : Bool) → native ≡ is_native a → native ≡ true → write_refused a ≡ Some (WriteRefused (name_text a.name.0))
 refused_yes a native e is = let test : is_native a ≡ true = sym e ∙ is in rw test refl
 
 pub refused_no : (a : Action) (native : Bool) → native ≡ is_native a → native ≡ false → write_refused a ≡ None

@@ -13,7 +13,7 @@ use Rattle.ante_types.specs.declared.failure.Failure.{Failure}
 use Rattle.ante_types.specs.declared.failure.Failure.TheVariants.{NoAction, Unsupported, TooBig, HasAuthorization, UnknownAccount, WriteRefused}
 use Rattle.ante_types.specs.Genesis.{builtin_authority, builtin_genesis, eosio, genesis_head}
 use Rattle.ante_types.specs.World.{World}
-use Rattle.ante_node.specs.Jobs.{Job}
+use Rattle.ante_types.specs.Jobs.{Job}
 use Rattle.ante_node.specs.Limits.{trx_limit}
 
 -- ---- the world
@@ -70,9 +70,9 @@ account_failure world actions =
 unfoldable pub check_failure : World → ℕ → Transaction → Option Failure
 check_failure world size t =
     if length t.actions == 0 then Some NoAction
-    else if not (length t.context_free_actions == 0) then Some (Unsupported (record { 0 = codes "context_free_actions" }))
-    else if not (t.delay_sec == 0) then Some (Unsupported (record { 0 = codes "delay_sec" }))
-    else if not (length t.extensions == 0) then Some (Unsupported (record { 0 = codes "extensions" }))
+    else if not (length t.context_free_actions == 0) then Some (Unsupported (codes "context_free_actions"))
+    else if not (t.delay_sec == 0) then Some (Unsupported (codes "delay_sec"))
+    else if not (length t.extensions == 0) then Some (Unsupported (codes "extensions"))
     else if nat_lt trx_limit size then Some TooBig
     else account_failure world t.actions
 
@@ -105,7 +105,7 @@ runs_from ordinal [] = []
 runs_from ordinal (a ∷ others) = run_of ordinal a ∷ (if is_native a then [] else runs_from (ordinal + 1) others)
 
 abbrev pub write_refused : Action → Option Failure
-write_refused a = if is_native a then Some (WriteRefused (record { 0 = name_text a.name.0 })) else None
+write_refused a = if is_native a then Some (WriteRefused (name_text a.name.0)) else None
 
 -- ---- the trace
 

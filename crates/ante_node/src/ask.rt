@@ -10,13 +10,12 @@ ghost use Rattle.ante_node.specs.declared.command.Command.TheVariants as command
 
 use crate::failure::AnswerFailure;
 use crate::fault::InputKind;
-use crate::job::ReadJob;
 use crate::limits::INPUT_LIMIT;
 use crate::lines::{Line, input_failure};
 use crate::read_only::read_only;
 use ante_base::{Source, read_front};
 use ante_pack::Bytes;
-use ante_types::{builtin_head, trace_text};
+use ante_types::{ReadJob, builtin_head, trace_text};
 use std::alloc::{AllocError, Global};
 
 /// The job that an input asks for.

@@ -5,7 +5,6 @@ mod ask;
 mod command;
 mod failure;
 mod fault;
-mod job;
 mod limits;
 mod lines;
 mod node;

@@ -7,9 +7,9 @@ ghost use Rattle.ante_node.specs.Lines.{IsHexFault, bytes_in, decoded, is_newlin
 
 use crate::failure::AnswerFailure;
 use crate::fault::{InputFault, InputKind};
-use crate::job::ReadJob;
 use crate::limits::{ITEM_LIMIT, LINE_LIMIT};
 use ante_pack::Bytes;
+use ante_types::ReadJob;
 use hex::FromHexError;
 use std::alloc::Global;
 use std::marker::Model;

@@ -2,7 +2,7 @@ ghost use Rattle.std.specs.Prelude.{◌≡◌, ◌⊎◌, ℕ, [], map, string_b
 ghost use Rattle.std.specs.Io.KnownBytes.{Appends, IsAtEnd};
 ghost use Rattle.ante_base.specs.Faults.{Rose};
 ghost use Rattle.ante_base.specs.Source.{TakesAtMost};
-ghost use Rattle.ante_node.specs.Jobs.{Job};
+ghost use Rattle.ante_types.specs.Jobs.{Job};
 ghost use Rattle.ante_node.specs.Ask.{Asks, answer};
 ghost use Rattle.ante_node.specs.Commands.{ComesTo, IsBadWord, MadeOf};
 ghost use Rattle.ante_node.specs.Ends.{EndsWith, HasWritten, RunEnds, status_of};

@@ -1,5 +1,6 @@
 ghost use Rattle.std.specs.Prelude.{◌≡◌, ◌<◌, ◌^◌, length, IfOk};
-ghost use Rattle.std.specs.Prelude.{◌==◌};
+ghost use Rattle.std.specs.Prelude.{◌==◌, IsTrue};
+ghost use Rattle.ante_types.specs.Labels.{is_label};
 ghost use Rattle.std.specs.List.{list_any};
 ghost use Rattle.ante_pack.specs.Names.{name_number, name_text};
 ghost use Rattle.ante_types.specs.Genesis.{eosio};
@@ -7,10 +8,9 @@ ghost use Rattle.ante_types.specs.declared.failure.Failure.TheVariants.{Unsuppor
 ghost use Rattle.std.specs.List.{position};
 ghost use Rattle.ante_node.specs.ReadOnly.{account_failure, builtin_world, check_failure, first_where, has_level, is_native, is_there, native_names, read_only, run_of, runs_from, unknown_account, write_refused};
 
-use crate::job::ReadJob;
 use crate::limits::TRX_LIMIT;
-use ante_pack::{Bytes, Name, Seq, name_text};
-use ante_types::{Action, ActionTrace, EOSIO, Failure, Head, Label, Trace, Transaction, trx_id};
+use ante_pack::{Bytes, Name, Seq};
+use ante_types::{Action, ActionTrace, EOSIO, Failure, Head, Label, ReadJob, Trace, Transaction, trx_id};
 use std::alloc::{AllocError, Global};
 
 /// The actions that the system's account does itself: newaccount, setcode, setabi, updateauth, deleteauth, linkauth and
@@ -55,16 +55,11 @@ fn is_native(action: &Action) -> bool
     is_native_name(action.name.0)
 }
 
-fn label(alloc: Global, text: &[u8]) -> Result<Label, AllocError>
-    ensures { IfOk result (λ l. l.0 ≡ text.now) }
-{
-    Ok(Label(Bytes::from_slice(alloc, text)?))
-}
-
 fn unsupported(alloc: Global, field: &[u8]) -> Result<Option<Failure>, AllocError>
-    ensures { IfOk result (λ f. f ≡ Some (Unsupported (record { 0 = field.now }))) }
+    requires { IsTrue (is_label field.now) }
+    ensures { IfOk result (λ f. f ≡ Some (Unsupported field.now)) }
 {
-    let field = label(alloc, field)?;
+    let field = Label::new(alloc, field)?;
     Ok(Some(Failure::Unsupported { field }))
 }
 
@@ -153,11 +148,9 @@ fn run_of(alloc: Global, ordinal: u32, action: &Action) -> Result<ActionTrace, A
 
 /// What a native action is refused with.
 fn refusal(alloc: Global, name: Name) -> Result<Failure, AllocError>
-    ensures { IfOk result (λ f. f ≡ WriteRefused (record { 0 = name_text name.0 })) }
+    ensures { IfOk result (λ f. f ≡ WriteRefused (name_text name.0)) }
 {
-    let (text, len) = name_text(name);
-    let (front, _) = text.split_at(len);
-    let intrinsic = label(alloc, front)?;
+    let intrinsic = Label::of_name(alloc, name)?;
     Ok(Failure::WriteRefused { intrinsic })
 }
 

@@ -1,2 +1,2 @@
-pub mod Codecs
-pub mod Rows
+pub mod Labels
+pub mod Jobs

@@ -1,9 +1,9 @@
--- Why a transaction fails: each failure's number, its name, and its arguments as JSON texts, which are its fields in order.
-use Rattle.std.specs.Prelude.{ℕ, List, [], ◌∷◌, codes, decimal}
-use Rattle.std.specs.Fmt.{signed_decimal}
+-- Why a transaction fails: each failure's number, its name, and its arguments, which are its fields in order.
+use Rattle.std.specs.Prelude.{ℕ, List, [], ◌∷◌, codes}
+use Rattle.serde_json.specs.Data.{Data, string}
 use Rattle.ante_types.specs.declared.failure.Failure.{Failure}
 use Rattle.ante_types.specs.declared.failure.Failure.TheVariants as f
-use Rattle.ante_types.specs.Json.{quoted, hex_json, name_json}
+use Rattle.ante_json_text.specs.Values.{number_value, signed_value, hex_value, name_value}
 
 abbrev pub failure_code : Failure → ℕ
 failure_code f.NoAction = 1
@@ -85,25 +85,25 @@ failure_name f.ReturnTooLong = codes "ReturnTooLong"
 failure_name f.Overlap = codes "Overlap"
 failure_name f.BadLimit = codes "BadLimit"
 
-abbrev pub failure_args : Failure → List (List ℕ)
-failure_args (f.HasAuthorization action) = decimal action ∷ []
-failure_args (f.UnknownAccount name) = name_json name ∷ []
-failure_args (f.Unsupported field) = quoted field.0 ∷ []
-failure_args (f.WriteRefused intrinsic) = quoted intrinsic.0 ∷ []
-failure_args (f.Assert message) = hex_json message ∷ []
-failure_args (f.AssertCode code) = decimal code ∷ []
-failure_args (f.Trap kind) = quoted kind.0 ∷ []
-failure_args (f.BadIterator value) = signed_decimal value ∷ []
-failure_args (f.KeyExists primary) = decimal primary ∷ []
-failure_args (f.NotOwner code) = name_json code ∷ []
-failure_args (f.BadPayer account) = name_json account ∷ []
-failure_args (f.RamExceeded account used quota) = name_json account ∷ decimal used ∷ signed_decimal quota ∷ []
-failure_args (f.MissingAuth actor permission) = name_json actor ∷ name_json permission ∷ []
-failure_args (f.Irrelevant actor permission) = name_json actor ∷ name_json permission ∷ []
-failure_args (f.DataFault at) = decimal at ∷ []
-failure_args (f.BadSignature index) = decimal index ∷ []
-failure_args (f.Native rule) = decimal rule ∷ []
-failure_args (f.KeyLength count) = decimal count ∷ []
+abbrev pub failure_args : Failure → List Data
+failure_args (f.HasAuthorization action) = number_value action ∷ []
+failure_args (f.UnknownAccount name) = name_value name ∷ []
+failure_args (f.Unsupported field) = string field ∷ []
+failure_args (f.WriteRefused intrinsic) = string intrinsic ∷ []
+failure_args (f.Assert message) = hex_value message ∷ []
+failure_args (f.AssertCode code) = number_value code ∷ []
+failure_args (f.Trap kind) = string kind ∷ []
+failure_args (f.BadIterator value) = signed_value value ∷ []
+failure_args (f.KeyExists primary) = number_value primary ∷ []
+failure_args (f.NotOwner code) = name_value code ∷ []
+failure_args (f.BadPayer account) = name_value account ∷ []
+failure_args (f.RamExceeded account used quota) = name_value account ∷ number_value used ∷ signed_value quota ∷ []
+failure_args (f.MissingAuth actor permission) = name_value actor ∷ name_value permission ∷ []
+failure_args (f.Irrelevant actor permission) = name_value actor ∷ name_value permission ∷ []
+failure_args (f.DataFault at) = number_value at ∷ []
+failure_args (f.BadSignature index) = number_value index ∷ []
+failure_args (f.Native rule) = number_value rule ∷ []
+failure_args (f.KeyLength count) = number_value count ∷ []
 failure_args f.NoAction = []
 failure_args f.StepLimit = []
 failure_args f.CallDepth = []

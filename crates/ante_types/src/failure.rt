@@ -1,8 +1,5 @@
+use crate::label::Label;
 use ante_pack::{Bytes, Name};
-
-/// An ASCII text that a failure names: an intrinsic, a field or a kind of trap.
-#[derive(Debug, Drop)]
-pub struct Label(pub Bytes);
 
 /// Why a transaction fails.
 #[derive(Debug, Drop)]

@@ -6,22 +6,25 @@ use crate::chain::{
     Action, Block, Extension, Genesis, GenesisAccount, Header, Receipt, Transaction,
 };
 use ante_pack::{
-    Authority, Bytes, PackReader, PackWriter, Packed, ReadFault, read_seq, read_whole, write_seq,
-    write_whole,
+    Authority, Bytes, PackReader, PackWriter, Packed, ReadFault, read_seq_fields, read_whole,
+    write_seq_fields, write_whole,
 };
 use std::alloc::{AllocError, Global};
 
 impl Packed for Action {
     ghost use Rattle.ante_types.specs.Chain.{action};
+    ghost use Rattle.ante_types.specs.Codecs.{IsCodec-action};
 
     ghost form = { action };
 
+    ghost is_codec = { IsCodec-action };
+
     #[tactic(auto, unfolding(crate::specs::Chain::action))]
-    fn read(alloc: Global, reader: &mut PackReader<'_>) -> Result<Action, ReadFault> {
+    fn read_fields(alloc: Global, reader: &mut PackReader<'_>) -> Result<Action, ReadFault> {
         let account = reader.name()?;
         let name = reader.name()?;
-        let authorization = read_seq(alloc, reader)?;
-        let bytes = Bytes::read(alloc, reader)?;
+        let authorization = read_seq_fields(alloc, reader)?;
+        let bytes = Bytes::read_fields(alloc, reader)?;
         Ok(Action {
             account,
             name,
@@ -31,49 +34,55 @@ impl Packed for Action {
     }
 
     #[tactic(auto, using(ante_pack::proofs::Pieces::onto), unfolding(crate::specs::Chain::action))]
-    fn write(&self, alloc: Global, writer: &mut PackWriter) -> Result<(), AllocError> {
+    fn write_fields(&self, alloc: Global, writer: &mut PackWriter) -> Result<(), AllocError> {
         writer.put_name(alloc, self.account)?;
         writer.put_name(alloc, self.name)?;
-        write_seq(alloc, writer, &self.authorization)?;
-        self.bytes.write(alloc, writer)
+        write_seq_fields(alloc, writer, &self.authorization)?;
+        self.bytes.write_fields(alloc, writer)
     }
 }
 
 impl Packed for Extension {
     ghost use Rattle.ante_types.specs.Chain.{extension};
+    ghost use Rattle.ante_types.specs.Codecs.{IsCodec-extension};
 
     ghost form = { extension };
 
+    ghost is_codec = { IsCodec-extension };
+
     #[tactic(auto, unfolding(crate::specs::Chain::extension))]
-    fn read(alloc: Global, reader: &mut PackReader<'_>) -> Result<Extension, ReadFault> {
+    fn read_fields(alloc: Global, reader: &mut PackReader<'_>) -> Result<Extension, ReadFault> {
         let kind = reader.u16()?;
-        let bytes = Bytes::read(alloc, reader)?;
+        let bytes = Bytes::read_fields(alloc, reader)?;
         Ok(Extension { kind, bytes })
     }
 
     #[tactic(auto, using(ante_pack::proofs::Pieces::onto), unfolding(crate::specs::Chain::extension))]
-    fn write(&self, alloc: Global, writer: &mut PackWriter) -> Result<(), AllocError> {
+    fn write_fields(&self, alloc: Global, writer: &mut PackWriter) -> Result<(), AllocError> {
         writer.put_u16(alloc, self.kind)?;
-        self.bytes.write(alloc, writer)
+        self.bytes.write_fields(alloc, writer)
     }
 }
 
 impl Packed for Transaction {
     ghost use Rattle.ante_types.specs.Chain.{transaction};
+    ghost use Rattle.ante_types.specs.Codecs.{IsCodec-transaction};
 
     ghost form = { transaction };
 
+    ghost is_codec = { IsCodec-transaction };
+
     #[tactic(auto, unfolding(crate::specs::Chain::transaction))]
-    fn read(alloc: Global, reader: &mut PackReader<'_>) -> Result<Transaction, ReadFault> {
+    fn read_fields(alloc: Global, reader: &mut PackReader<'_>) -> Result<Transaction, ReadFault> {
         let expiration = reader.u32()?;
         let ref_block_num = reader.u16()?;
         let ref_block_prefix = reader.u32()?;
         let max_net_usage_words = reader.varuint()?;
         let max_cpu_usage_ms = reader.u8()?;
         let delay_sec = reader.varuint()?;
-        let context_free_actions = read_seq(alloc, reader)?;
-        let actions = read_seq(alloc, reader)?;
-        let extensions = read_seq(alloc, reader)?;
+        let context_free_actions = read_seq_fields(alloc, reader)?;
+        let actions = read_seq_fields(alloc, reader)?;
+        let extensions = read_seq_fields(alloc, reader)?;
         Ok(Transaction {
             expiration,
             ref_block_num,
@@ -88,30 +97,33 @@ impl Packed for Transaction {
     }
 
     #[tactic(auto, unfolding(crate::specs::Chain::transaction))]
-    fn write(&self, alloc: Global, writer: &mut PackWriter) -> Result<(), AllocError> {
+    fn write_fields(&self, alloc: Global, writer: &mut PackWriter) -> Result<(), AllocError> {
         writer.put_u32(alloc, self.expiration)?;
         writer.put_u16(alloc, self.ref_block_num)?;
         writer.put_u32(alloc, self.ref_block_prefix)?;
         writer.put_varuint(alloc, self.max_net_usage_words)?;
         writer.put_u8(alloc, self.max_cpu_usage_ms)?;
         writer.put_varuint(alloc, self.delay_sec)?;
-        write_seq(alloc, writer, &self.context_free_actions)?;
-        write_seq(alloc, writer, &self.actions)?;
-        write_seq(alloc, writer, &self.extensions)?;
+        write_seq_fields(alloc, writer, &self.context_free_actions)?;
+        write_seq_fields(alloc, writer, &self.actions)?;
+        write_seq_fields(alloc, writer, &self.extensions)?;
         Ok(())
     }
 }
 
 impl Packed for Receipt {
     ghost use Rattle.ante_types.specs.Chain.{receipt};
+    ghost use Rattle.ante_types.specs.Codecs.{IsCodec-receipt};
 
     ghost form = { receipt };
 
+    ghost is_codec = { IsCodec-receipt };
+
     #[tactic(auto, unfolding(crate::specs::Chain::receipt))]
-    fn read(alloc: Global, reader: &mut PackReader<'_>) -> Result<Receipt, ReadFault> {
+    fn read_fields(alloc: Global, reader: &mut PackReader<'_>) -> Result<Receipt, ReadFault> {
         let steps = reader.u32()?;
-        let packed = Bytes::read(alloc, reader)?;
-        let signatures = read_seq(alloc, reader)?;
+        let packed = Bytes::read_fields(alloc, reader)?;
+        let signatures = read_seq_fields(alloc, reader)?;
         Ok(Receipt {
             steps,
             packed,
@@ -120,20 +132,23 @@ impl Packed for Receipt {
     }
 
     #[tactic(auto, using(ante_pack::proofs::Pieces::onto), unfolding(crate::specs::Chain::receipt))]
-    fn write(&self, alloc: Global, writer: &mut PackWriter) -> Result<(), AllocError> {
+    fn write_fields(&self, alloc: Global, writer: &mut PackWriter) -> Result<(), AllocError> {
         writer.put_u32(alloc, self.steps)?;
-        self.packed.write(alloc, writer)?;
-        write_seq(alloc, writer, &self.signatures)
+        self.packed.write_fields(alloc, writer)?;
+        write_seq_fields(alloc, writer, &self.signatures)
     }
 }
 
 impl Packed for Header {
     ghost use Rattle.ante_types.specs.Chain.{header};
+    ghost use Rattle.ante_types.specs.Codecs.{IsCodec-header};
 
     ghost form = { header };
 
+    ghost is_codec = { IsCodec-header };
+
     #[tactic(auto, unfolding(crate::specs::Chain::header))]
-    fn read(_alloc: Global, reader: &mut PackReader<'_>) -> Result<Header, ReadFault> {
+    fn read_fields(_alloc: Global, reader: &mut PackReader<'_>) -> Result<Header, ReadFault> {
         let slot = reader.u32()?;
         let producer = reader.name()?;
         let previous = reader.digest()?;
@@ -147,7 +162,7 @@ impl Packed for Header {
     }
 
     #[tactic(auto, using(ante_pack::proofs::Pieces::onto), unfolding(crate::specs::Chain::header))]
-    fn write(&self, alloc: Global, writer: &mut PackWriter) -> Result<(), AllocError> {
+    fn write_fields(&self, alloc: Global, writer: &mut PackWriter) -> Result<(), AllocError> {
         writer.put_u32(alloc, self.slot)?;
         writer.put_name(alloc, self.producer)?;
         writer.put_digest(alloc, &self.previous)?;
@@ -157,14 +172,17 @@ impl Packed for Header {
 
 impl Packed for Block {
     ghost use Rattle.ante_types.specs.Chain.{block};
+    ghost use Rattle.ante_types.specs.Codecs.{IsCodec-block};
 
     ghost form = { block };
 
+    ghost is_codec = { IsCodec-block };
+
     #[tactic(auto, unfolding(crate::specs::Chain::block))]
-    fn read(alloc: Global, reader: &mut PackReader<'_>) -> Result<Block, ReadFault> {
-        let header = Header::read(alloc, reader)?;
-        let seal = Bytes::read(alloc, reader)?;
-        let receipts = read_seq(alloc, reader)?;
+    fn read_fields(alloc: Global, reader: &mut PackReader<'_>) -> Result<Block, ReadFault> {
+        let header = Header::read_fields(alloc, reader)?;
+        let seal = Bytes::read_fields(alloc, reader)?;
+        let receipts = read_seq_fields(alloc, reader)?;
         Ok(Block {
             header,
             seal,
@@ -173,24 +191,30 @@ impl Packed for Block {
     }
 
     #[tactic(auto, using(ante_pack::proofs::Pieces::onto), unfolding(crate::specs::Chain::block))]
-    fn write(&self, alloc: Global, writer: &mut PackWriter) -> Result<(), AllocError> {
-        self.header.write(alloc, writer)?;
-        self.seal.write(alloc, writer)?;
-        write_seq(alloc, writer, &self.receipts)
+    fn write_fields(&self, alloc: Global, writer: &mut PackWriter) -> Result<(), AllocError> {
+        self.header.write_fields(alloc, writer)?;
+        self.seal.write_fields(alloc, writer)?;
+        write_seq_fields(alloc, writer, &self.receipts)
     }
 }
 
 impl Packed for GenesisAccount {
     ghost use Rattle.ante_types.specs.Chain.{genesis_account};
+    ghost use Rattle.ante_types.specs.Codecs.{IsCodec-genesis_account};
 
     ghost form = { genesis_account };
 
+    ghost is_codec = { IsCodec-genesis_account };
+
     #[tactic(auto, unfolding(crate::specs::Chain::genesis_account))]
-    fn read(alloc: Global, reader: &mut PackReader<'_>) -> Result<GenesisAccount, ReadFault> {
+    fn read_fields(
+        alloc: Global,
+        reader: &mut PackReader<'_>,
+    ) -> Result<GenesisAccount, ReadFault> {
         let name = reader.name()?;
-        let owner = Authority::read(alloc, reader)?;
-        let active = Authority::read(alloc, reader)?;
-        let code = Bytes::read(alloc, reader)?;
+        let owner = Authority::read_fields(alloc, reader)?;
+        let active = Authority::read_fields(alloc, reader)?;
+        let code = Bytes::read_fields(alloc, reader)?;
         Ok(GenesisAccount {
             name,
             owner,
@@ -200,25 +224,28 @@ impl Packed for GenesisAccount {
     }
 
     #[tactic(auto, using(ante_pack::proofs::Pieces::onto), unfolding(crate::specs::Chain::genesis_account))]
-    fn write(&self, alloc: Global, writer: &mut PackWriter) -> Result<(), AllocError> {
+    fn write_fields(&self, alloc: Global, writer: &mut PackWriter) -> Result<(), AllocError> {
         writer.put_name(alloc, self.name)?;
-        self.owner.write(alloc, writer)?;
-        self.active.write(alloc, writer)?;
-        self.code.write(alloc, writer)
+        self.owner.write_fields(alloc, writer)?;
+        self.active.write_fields(alloc, writer)?;
+        self.code.write_fields(alloc, writer)
     }
 }
 
 impl Packed for Genesis {
     ghost use Rattle.ante_types.specs.Chain.{genesis};
+    ghost use Rattle.ante_types.specs.Codecs.{IsCodec-genesis};
 
     ghost form = { genesis };
 
+    ghost is_codec = { IsCodec-genesis };
+
     #[tactic(auto, unfolding(crate::specs::Chain::genesis))]
-    fn read(alloc: Global, reader: &mut PackReader<'_>) -> Result<Genesis, ReadFault> {
+    fn read_fields(alloc: Global, reader: &mut PackReader<'_>) -> Result<Genesis, ReadFault> {
         let version = reader.u32()?;
         let slot = reader.u32()?;
-        let producers = read_seq(alloc, reader)?;
-        let accounts = read_seq(alloc, reader)?;
+        let producers = read_seq_fields(alloc, reader)?;
+        let accounts = read_seq_fields(alloc, reader)?;
         Ok(Genesis {
             version,
             slot,
@@ -228,11 +255,11 @@ impl Packed for Genesis {
     }
 
     #[tactic(auto, using(ante_pack::proofs::Pieces::onto), unfolding(crate::specs::Chain::genesis))]
-    fn write(&self, alloc: Global, writer: &mut PackWriter) -> Result<(), AllocError> {
+    fn write_fields(&self, alloc: Global, writer: &mut PackWriter) -> Result<(), AllocError> {
         writer.put_u32(alloc, self.version)?;
         writer.put_u32(alloc, self.slot)?;
-        write_seq(alloc, writer, &self.producers)?;
-        write_seq(alloc, writer, &self.accounts)
+        write_seq_fields(alloc, writer, &self.producers)?;
+        write_seq_fields(alloc, writer, &self.accounts)
     }
 }
 

@@ -6,7 +6,7 @@ ghost use Rattle.ante_types.specs.Chain.{header, receipt};
 ghost use Rattle.ante_types.specs.Ids as ids;
 
 use crate::chain::{Header, Receipt};
-use ante_pack::{Digest, PackWriter, Seq, write_seq};
+use ante_pack::{Digest, PackWriter, Seq, write_seq_fields};
 use sha2::{Digest as _, Sha256};
 use std::alloc::{AllocError, Global};
 
@@ -36,7 +36,7 @@ pub fn trx_root(alloc: Global, receipts: &Seq<Receipt>) -> Result<Digest, AllocE
     ensures { IfOk result (λ root. root ≡ ids.trx_root receipts.now) }
 {
     let mut writer = PackWriter::new(alloc);
-    write_seq(alloc, &mut writer, receipts)?;
+    write_seq_fields(alloc, &mut writer, receipts)?;
     Ok(Sha256::digest(writer.as_slice()))
 }
 

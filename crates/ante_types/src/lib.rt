@@ -1,7 +1,6 @@
 //! The data of the chain: transactions, blocks and genesis with their packed forms and ids, and traces with their text.
 #![tactic(auto)]
 
-mod arguments;
 mod builtin;
 mod chain;
 mod context;
@@ -9,8 +8,8 @@ mod failure;
 mod failure_words;
 mod forms;
 mod ids;
-mod json;
-pub mod laws;
+mod job;
+mod label;
 mod rendering;
 mod trace;
 
@@ -20,11 +19,13 @@ pub use chain::{
     Transaction,
 };
 pub use context::{Mode, RunContext};
-pub use failure::{Failure, Label};
+pub use failure::Failure;
 pub use failure_words::{failure_code, failure_name};
 pub use forms::{
     read_action, read_block, read_genesis, read_trx, write_block, write_genesis, write_trx,
 };
 pub use ids::{block_id, block_num, signing_digest, trx_id, trx_root};
+pub use job::ReadJob;
+pub use label::Label;
 pub use rendering::trace_text;
 pub use trace::{ActionTrace, Trace};

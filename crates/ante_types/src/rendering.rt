@@ -1,142 +1,183 @@
-ghost use Rattle.std.specs.Prelude.{◌≡◌, ◌∷◌, ◌++◌, OnOk, IfOk, map};
-ghost use Rattle.std.specs.List.{flat_map};
+ghost use Rattle.std.specs.Prelude.{◌≡◌, [], ◌∷◌, OnOk, IfOk};
+ghost use Rattle.serde_json.specs.Data.{string};
+ghost use Rattle.serde_json.specs.Written.{compact_text};
 ghost use Rattle.ante_pack.specs.Adds.{Adds};
-ghost use Rattle.ante_types.specs.Json.{array};
+ghost use Rattle.ante_json_text.specs.Values.{list_value, name_value, number_value};
 ghost use Rattle.ante_types.specs.Failures.{failure_args};
-ghost use Rattle.ante_types.specs.Traces.{action_json, actions_json, arguments_texts, failure_json, failure_object, trace_json};
+ghost use Rattle.ante_types.specs.Traces.{outcome_value, trace_json};
 
-use crate::arguments::{Arguments, arguments_of};
 use crate::failure::Failure;
 use crate::failure_words::{failure_code, failure_name};
-use crate::json::{put_hex, put_name, put_number, put_quoted, put_signed, put_text};
+use crate::label::Label;
 use crate::trace::{ActionTrace, Trace};
-use ante_pack::Bytes;
+use ante_json_text::{
+    Member, Scalar, ToJson, begin_object, end_object, put_array, put_key, put_member, put_object,
+};
+use ante_pack::{Bytes, Name};
 use std::alloc::{AllocError, Global};
 
-fn put_arguments(
-    alloc: Global,
-    out: &mut Bytes,
-    arguments: &Arguments<'_>,
-) -> Result<(), AllocError>
-    ensures { OnOk result (Adds out.old out.new (array (arguments_texts arguments.now))) }
-{
-    match arguments {
-        Arguments::None => put_text(alloc, out, b"[")?,
-        Arguments::Number(number) => put_number(alloc, out, b"[", *number)?,
-        Arguments::Signed(number) => put_signed(alloc, out, b"[", *number)?,
-        Arguments::Name(name) => put_name(alloc, out, b"[", *name)?,
-        Arguments::Names(first, second) => {
-            put_name(alloc, out, b"[", *first)?;
-            put_name(alloc, out, b",", *second)?;
-        }
-        Arguments::Label(label) => put_quoted(alloc, out, b"[", label.0.as_slice())?,
-        Arguments::Bytes(bytes) => put_hex(alloc, out, b"[", bytes.as_slice())?,
-        Arguments::Quota(account, used, quota) => {
-            put_name(alloc, out, b"[", *account)?;
-            put_number(alloc, out, b",", *used)?;
-            put_signed(alloc, out, b",", *quota)?;
-        }
+impl ToJson for ActionTrace {
+    ghost use Rattle.ante_types.specs.Traces.{action_value};
+
+    ghost value = { action_value };
+
+    #[tactic(auto, unfolding(crate::specs::Traces::action_value))]
+    fn put_json(&self, alloc: Global, out: &mut Bytes) -> Result<(), AllocError> {
+        put_object(
+            alloc,
+            out,
+            &[
+                Member(b"account", Scalar::Name(self.account)),
+                Member(b"bytes", Scalar::Bytes(&self.bytes)),
+                Member(b"console", Scalar::Bytes(&self.console)),
+                Member(b"creator", Scalar::Number(u64::from(self.creator))),
+                Member(b"name", Scalar::Name(self.name)),
+                Member(b"ordinal", Scalar::Number(u64::from(self.ordinal))),
+                Member(b"receiver", Scalar::Name(self.receiver)),
+                Member(b"return_value", Scalar::Bytes(&self.return_value)),
+                Member(b"steps", Scalar::Number(self.steps)),
+            ],
+        )
     }
-    put_text(alloc, out, b"]")
 }
 
-fn put_failure_object(alloc: Global, out: &mut Bytes, failure: &Failure) -> Result<(), AllocError>
-    ensures { OnOk result (Adds out.old out.new (failure_object failure.now)) }
-{
-    put_text(alloc, out, b"{\"args\":")?;
-    put_arguments(alloc, out, &arguments_of(failure))?;
-    put_number(alloc, out, b",\"code\":", u64::from(failure_code(failure)))?;
-    put_quoted(alloc, out, b",\"name\":", failure_name(failure))?;
-    put_text(alloc, out, b"}")?;
-    Ok(())
+impl ToJson for Failure {
+    ghost use Rattle.ante_types.specs.Traces.{failure_value};
+
+    ghost value = { failure_value };
+
+    fn put_json(&self, alloc: Global, out: &mut Bytes) -> Result<(), AllocError> {
+        let code = Scalar::Number(u64::from(failure_code(self)));
+        let name = Scalar::Text(failure_name(self));
+        begin_object(alloc, out)?;
+        put_key(alloc, out, false, b"args")?;
+        put_arguments(alloc, out, self)?;
+        put_member(alloc, out, true, &Member(b"code", code))?;
+        put_member(alloc, out, true, &Member(b"name", name))?;
+        end_object(alloc, out)?;
+        Ok(())
+    }
 }
 
-fn put_failure(alloc: Global, out: &mut Bytes, failure: &Option<Failure>) -> Result<(), AllocError>
-    ensures { OnOk result (Adds out.old out.new (failure_json failure.now)) }
+impl ToJson for Trace {
+    ghost use Rattle.ante_types.specs.Traces.{trace_value};
+
+    ghost value = { trace_value };
+
+    fn put_json(&self, alloc: Global, out: &mut Bytes) -> Result<(), AllocError> {
+        let num = Scalar::Number(u64::from(self.head.num));
+        begin_object(alloc, out)?;
+        put_key(alloc, out, false, b"actions")?;
+        put_array(alloc, out, self.actions.as_slice())?;
+        put_member(
+            alloc,
+            out,
+            true,
+            &Member(b"block_id", Scalar::Hex(&self.head.id)),
+        )?;
+        put_member(alloc, out, true, &Member(b"block_num", num))?;
+        put_key(alloc, out, true, b"failure")?;
+        put_outcome(alloc, out, &self.failure)?;
+        put_member(alloc, out, true, &Member(b"id", Scalar::Hex(&self.id)))?;
+        put_member(
+            alloc,
+            out,
+            true,
+            &Member(b"position", Scalar::Number(self.position)),
+        )?;
+        put_member(
+            alloc,
+            out,
+            true,
+            &Member(b"steps", Scalar::Number(self.steps)),
+        )?;
+        end_object(alloc, out)?;
+        Ok(())
+    }
+}
+
+fn put_outcome(alloc: Global, out: &mut Bytes, failure: &Option<Failure>) -> Result<(), AllocError>
+    ensures { OnOk result (Adds out.old out.new (compact_text (outcome_value failure.now))) }
 {
     match failure {
-        None => put_text(alloc, out, b"null"),
-        Some(failure) => put_failure_object(alloc, out, failure),
+        None => Scalar::Null.put_json(alloc, out),
+        Some(failure) => failure.put_json(alloc, out),
     }
 }
 
-fn put_action(alloc: Global, out: &mut Bytes, run: &ActionTrace) -> Result<(), AllocError>
-    ensures { OnOk result (Adds out.old out.new (action_json run.now)) }
+/// Appends the list of a failure's fields.
+fn put_arguments(alloc: Global, out: &mut Bytes, failure: &Failure) -> Result<(), AllocError>
+    ensures { OnOk result (Adds out.old out.new (compact_text (list_value (failure_args failure.now)))) }
 {
-    put_name(alloc, out, b"{\"account\":", run.account)?;
-    put_hex(alloc, out, b",\"bytes\":", run.bytes.as_slice())?;
-    put_hex(alloc, out, b",\"console\":", run.console.as_slice())?;
-    put_number(alloc, out, b",\"creator\":", u64::from(run.creator))?;
-    put_name(alloc, out, b",\"name\":", run.name)?;
-    put_number(alloc, out, b",\"ordinal\":", u64::from(run.ordinal))?;
-    put_name(alloc, out, b",\"receiver\":", run.receiver)?;
-    put_hex(
-        alloc,
-        out,
-        b",\"return_value\":",
-        run.return_value.as_slice(),
-    )?;
-    put_number(alloc, out, b",\"steps\":", run.steps)?;
-    put_text(alloc, out, b"}")?;
-    Ok(())
-}
-
-fn put_later_actions(alloc: Global, out: &mut Bytes, runs: &[ActionTrace]) -> Result<(), AllocError>
-    ensures { OnOk result (Adds out.old out.new (flat_map (λ run. 44 ∷ action_json run) runs.now)) }
-{
-    for run in runs {
-        put_text(alloc, out, b",")?;
-        put_action(alloc, out, run)?;
+    match failure {
+        Failure::HasAuthorization { action } => put_number(alloc, out, u64::from(*action)),
+        Failure::UnknownAccount { name } => put_array(alloc, out, &[Scalar::Name(*name)]),
+        Failure::Unsupported { field } => put_label(alloc, out, field),
+        Failure::WriteRefused { intrinsic } => put_label(alloc, out, intrinsic),
+        Failure::Assert { message } => put_array(alloc, out, &[Scalar::Bytes(message)]),
+        Failure::AssertCode { code } => put_number(alloc, out, *code),
+        Failure::Trap { kind } => put_label(alloc, out, kind),
+        Failure::BadIterator { value } => {
+            put_array(alloc, out, &[Scalar::Signed(i64::from(*value))])
+        }
+        Failure::KeyExists { primary } => put_number(alloc, out, *primary),
+        Failure::NotOwner { code } => put_array(alloc, out, &[Scalar::Name(*code)]),
+        Failure::BadPayer { account } => put_array(alloc, out, &[Scalar::Name(*account)]),
+        Failure::RamExceeded {
+            account,
+            used,
+            quota,
+        } => put_array(
+            alloc,
+            out,
+            &[
+                Scalar::Name(*account),
+                Scalar::Number(*used),
+                Scalar::Signed(*quota),
+            ],
+        ),
+        Failure::MissingAuth { actor, permission } => put_names(alloc, out, *actor, *permission),
+        Failure::Irrelevant { actor, permission } => put_names(alloc, out, *actor, *permission),
+        Failure::DataFault { at } => put_number(alloc, out, *at),
+        Failure::BadSignature { index } => put_number(alloc, out, u64::from(*index)),
+        Failure::Native { rule } => put_number(alloc, out, u64::from(*rule)),
+        Failure::KeyLength { count } => put_number(alloc, out, u64::from(*count)),
+        _ => put_none(alloc, out),
     }
-    Ok(())
 }
 
-fn put_actions(alloc: Global, out: &mut Bytes, runs: &[ActionTrace]) -> Result<(), AllocError>
-    ensures { OnOk result (Adds out.old out.new (actions_json runs.now)) }
+fn put_none(alloc: Global, out: &mut Bytes) -> Result<(), AllocError>
+    ensures { OnOk result (Adds out.old out.new (compact_text (list_value []))) }
 {
-    match runs.split_first() {
-        None => put_text(alloc, out, b"[]"),
-        Some((first, later)) => put_some_actions(alloc, out, first, later),
-    }
+    let none: [Scalar<'_>; 0] = [];
+    put_array(alloc, out, &none)
 }
 
-fn put_some_actions(
-    alloc: Global,
-    out: &mut Bytes,
-    first: &ActionTrace,
-    later: &[ActionTrace],
-) -> Result<(), AllocError>
-    ensures { OnOk result (Adds out.old out.new (actions_json (first.now ∷ later.now))) }
+fn put_number(alloc: Global, out: &mut Bytes, number: u64) -> Result<(), AllocError>
+    ensures { OnOk result (Adds out.old out.new (compact_text (list_value (number_value number ∷ [])))) }
 {
-    put_text(alloc, out, b"[")?;
-    put_action(alloc, out, first)?;
-    put_later_actions(alloc, out, later)?;
-    put_text(alloc, out, b"]")?;
-    Ok(())
+    put_array(alloc, out, &[Scalar::Number(number)])
 }
 
-fn put_trace(alloc: Global, out: &mut Bytes, trace: &Trace) -> Result<(), AllocError>
-    ensures { OnOk result (Adds out.old out.new (trace_json trace.now)) }
+fn put_label(alloc: Global, out: &mut Bytes, label: &Label) -> Result<(), AllocError>
+    ensures { OnOk result (Adds out.old out.new (compact_text (list_value (string label.now ∷ [])))) }
 {
-    put_text(alloc, out, b"{\"actions\":")?;
-    put_actions(alloc, out, trace.actions.as_slice())?;
-    put_hex(alloc, out, b",\"block_id\":", &trace.head.id)?;
-    put_number(alloc, out, b",\"block_num\":", u64::from(trace.head.num))?;
-    put_text(alloc, out, b",\"failure\":")?;
-    put_failure(alloc, out, &trace.failure)?;
-    put_hex(alloc, out, b",\"id\":", &trace.id)?;
-    put_number(alloc, out, b",\"position\":", trace.position)?;
-    put_number(alloc, out, b",\"steps\":", trace.steps)?;
-    put_text(alloc, out, b"}")?;
-    Ok(())
+    put_array(alloc, out, &[Scalar::Text(label.as_slice())])
+}
+
+fn put_names(alloc: Global, out: &mut Bytes, first: Name, second: Name) -> Result<(), AllocError>
+    ensures { OnOk result (Adds out.old out.new (compact_text (list_value (name_value first ∷ name_value second ∷ [])))) }
+{
+    put_array(alloc, out, &[Scalar::Name(first), Scalar::Name(second)])
 }
 
 /// The trace as compact JSON with its keys in ascending order: names as texts, byte strings and digests as lower-case
 /// hex, numbers plain.
+#[tactic(auto, unfolding(crate::specs::Traces::trace_json))]
 pub fn trace_text(alloc: Global, trace: &Trace) -> Result<Bytes, AllocError>
     ensures { IfOk result (λ text. text ≡ trace_json trace.now) }
 {
     let mut out = Bytes::new(alloc);
-    put_trace(alloc, &mut out, trace)?;
+    trace.put_json(alloc, &mut out)?;
     Ok(out)
 }
