@@ -1,4 +1,4 @@
--- Which bills go and come where one entry of the world changes.
+-- Which bills are removed and added where one entry of the world changes.
 use Rattle.std.proofs.Common.{◌≡◌, ℕ, ◌+◌, ◌≤◌, T, List, ◌++◌, Option, Some, None, refl, sym, ap, arith, Ordering, Equal}
 use Rattle.std.specs.Cmp.{IsTotalOrder}
 use Rattle.std.specs.List.{sum_by, flat_map}
@@ -36,7 +36,7 @@ module _ {K V : Type 0} (cmp : K → K → Ordering) (o : IsTotalOrder cmp) (exa
   alike : (k x : K) (v : V) → cmp k x ≡ Equal → sum_by part (of_entry (x, v)) ≡ sum_by part (of_entry (k, v))
   alike k x v p = ap (λ y. sum_by part (of_entry (y, v))) (sym (exact k x p))
 
-  -- the bills of the old entry go, those of the new one come
+  -- the bills of the old entry are removed, those of the new one are added
   pub entry_rebills : (es : List (K × V)) (k : K) (v : Option V) → T (is_sorted cmp es) →
       sum_by part (flat_map of_entry (changed cmp es k v)) + sum_by part (bills_at of_entry k (find cmp k es)) ≡ sum_by part (flat_map of_entry es) + sum_by part (bills_at of_entry k v)
   entry_rebills es k v h = omega (

@@ -20,7 +20,8 @@ use Rattle.ante_store.specs.declared.change.Change.TheVariants as change
 use Rattle.ante_store.specs.Changes.{after}
 use Rattle.ante_store.specs.Applied.{IsMade}
 use Rattle.ante_store.specs.Genesis.{owner, active, no_name, account_of, permission_of, permissions_of, accounts_of, world_with, joined, Rises, Shows}
-use Rattle.ante_store.specs.Worlds.{Maps, world_of, IsBilled}
+use Rattle.ante_store.specs.declared.parts.Maps.{Maps}
+use Rattle.ante_store.specs.Worlds.{world_of, IsBilled}
 use Rattle.ante_store.proofs.KeyOrders.{names_total, levels_total}
 use Rattle.ante_store.proofs.Rebilled.{take_next}
 
@@ -98,7 +99,7 @@ next_shown accounts i d m m2 lt rises shows world billed = record {
   billed = billed;
 }
 
-pub empty_shown : Shows [] ((record { tables = []; rows = [] }, record { accounts = []; permissions = []; links = []; recent = []; references = [] }), [])
+pub empty_shown : Shows [] (record { rows = record { tables = []; rows = [] }; objects = record { accounts = []; permissions = []; links = []; recent = []; references = [] }; usage = [] })
 empty_shown = record {
   world = refl;
   billed = record {

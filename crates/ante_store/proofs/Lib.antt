@@ -11,3 +11,4 @@ pub mod Lengths
 pub mod RowsMade
 pub mod Shares
 pub mod Founding
+pub mod Throughout

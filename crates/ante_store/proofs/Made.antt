@@ -12,8 +12,6 @@ use Rattle.ante_pack.specs.declared.names.Name.{Name}
 use Rattle.ante_pack.specs.declared.names.TableKey.{TableKey}
 use Rattle.ante_state.specs.Orders.{name_order, table_order, row_order, level_order, link_order, recent_order}
 use Rattle.ante_types.specs.World.{World, bills, paid_by, used_by_all}
-use Rattle.ante_rows.specs.declared.rows.RowsMap.{RowsMap}
-use Rattle.ante_objects.specs.declared.objects.ObjectsMap.{ObjectsMap}
 use Rattle.ante_ram.specs.declared.parts.Share.{Share}
 use Rattle.ante_ram.specs.Usage.{used_of, usage_sum}
 use Rattle.ante_store.specs.declared.change.Change.{Change}
@@ -21,22 +19,23 @@ use Rattle.ante_store.specs.declared.change.WriteError.{WriteError}
 use Rattle.ante_store.specs.declared.change.WriteError.TheVariants as error
 use Rattle.ante_store.specs.Bills.{quotas_of, paid, IsRebilled, Rebills}
 use Rattle.ante_store.specs.Changes.{count_of, after, misplaced, is_full, is_too_much, refusal, IsCause}
-use Rattle.ante_store.specs.Worlds.{Maps, world_of, of_table, IsBilled}
-use Rattle.ante_store.specs.Applied.{IsMade, IsUnpaid}
+use Rattle.ante_store.specs.declared.parts.Maps.{Maps}
+use Rattle.ante_store.specs.Worlds.{world_of, of_table, IsBilled}
+use Rattle.ante_store.specs.Applied.{with_usage, IsMade, IsUnpaid}
 
 -- what the rule says of the maps beside usage
-pub record IsKept (x : RowsMap × ObjectsMap) : Type 0 where
-  pub accounts : T (is_sorted name_order x.1.accounts)
-  pub permissions : T (is_sorted level_order x.1.permissions)
-  pub links : T (is_sorted link_order x.1.links)
-  pub recent : T (is_sorted recent_order x.1.recent)
-  pub references : T (is_sorted nat_cmp x.1.references)
-  pub tables : T (is_sorted table_order x.0.tables)
-  pub rows : T (is_sorted row_order x.0.rows)
-  pub counted : (table : TableKey) → weight_of (of_table table) x.0.rows ≡ count_of (find table_order table x.0.tables)
-  pub some : (table : TableKey) → IfSome (find table_order table x.0.tables) (λ t. 0 < t.count)
+pub record IsKept (x : Maps) : Type 0 where
+  pub accounts : T (is_sorted name_order x.objects.accounts)
+  pub permissions : T (is_sorted level_order x.objects.permissions)
+  pub links : T (is_sorted link_order x.objects.links)
+  pub recent : T (is_sorted recent_order x.objects.recent)
+  pub references : T (is_sorted nat_cmp x.objects.references)
+  pub tables : T (is_sorted table_order x.rows.tables)
+  pub rows : T (is_sorted row_order x.rows.rows)
+  pub counted : (table : TableKey) → weight_of (of_table table) x.rows.rows ≡ count_of (find table_order table x.rows.tables)
+  pub some : (table : TableKey) → IfSome (find table_order table x.rows.tables) (λ t. 0 < t.count)
 
-pub kept_of : (m : Maps) → IsBilled m → IsKept m.0
+pub kept_of : (m : Maps) → IsBilled m → IsKept m
 kept_of m is = record {
   accounts = is.accounts;
   permissions = is.permissions;
@@ -49,29 +48,30 @@ kept_of m is = record {
   some = is.some;
 }
 
--- the maps that a change leads to, beside usage, and the bills that go and come
-pub record Leads (c : Change) (gone come : List (Name × ℕ)) (old : Maps) (x : RowsMap × ObjectsMap) : Type 0 where
+-- the maps that a change leads to, beside usage, and the bills that are removed and added
+pub record Leads (c : Change) (removed added : List (Name × ℕ)) (old : Maps) (x : Maps) : Type 0 where
   pub placed : misplaced c (world_of old) ≡ None
   pub room : is_full c (world_of old) ≡ false
-  pub world : world_of (x, old.1) ≡ after c (world_of old)
-  pub rebills : Rebills gone come (world_of old) (world_of (x, old.1))
-  pub within : (part : Name × ℕ → ℕ) → sum_by part gone ≤ sum_by part (bills (world_of old))
+  pub usage : x.usage ≡ old.usage
+  pub world : world_of x ≡ after c (world_of old)
+  pub rebills : Rebills removed added (world_of old) (world_of x)
+  pub within : (part : Name × ℕ → ℕ) → sum_by part removed ≤ sum_by part (bills (world_of old))
   pub kept : IsKept x
 
 -- the same with the lists of bills as they were found
-pub leads_as : (c : Change) (gone come g k : List (Name × ℕ)) (old : Maps) (x : RowsMap × ObjectsMap) → gone ≡ g → come ≡ k → Leads c g k old x → Leads c gone come old x
-leads_as c gone come g k old x a b leads = subst (λ gone. Leads c gone come old x) (sym a) (subst (λ come. Leads c g come old x) (sym b) leads)
+pub leads_as : (c : Change) (removed added g k : List (Name × ℕ)) (old : Maps) (x : Maps) → removed ≡ g → added ≡ k → Leads c g k old x → Leads c removed added old x
+leads_as c removed added g k old x a b leads = subst (λ removed. Leads c removed added old x) (sym a) (subst (λ added. Leads c g added old x) (sym b) leads)
 
-same_quotas : (x : RowsMap × ObjectsMap) (u v : List (Name × Share)) → quotas_of u ≡ quotas_of v → world_of (x, u) ≡ world_of (x, v)
-same_quotas x u v e = ap (λ quotas. record {
-  accounts = x.1.accounts;
-  permissions = x.1.permissions;
-  links = x.1.links;
+same_quotas : (x : Maps) (usage : List (Name × Share)) → quotas_of usage ≡ quotas_of x.usage → world_of (with_usage usage x) ≡ world_of x
+same_quotas x usage e = ap (λ quotas. record {
+  accounts = x.objects.accounts;
+  permissions = x.objects.permissions;
+  links = x.objects.links;
   quotas = quotas;
-  recent = x.1.recent;
-  references = x.1.references;
-  tables = x.0.tables;
-  rows = x.0.rows;
+  recent = x.objects.recent;
+  references = x.objects.references;
+  tables = x.rows.tables;
+  rows = x.rows.rows;
 }) e
 
 not_over : (a b : ℕ) → a ≤ b → nat_lt b a ≡ false
@@ -92,17 +92,17 @@ overfull_by c w placed room large =
     ∙ ap (λ full. cond (full || is_too_much c w) (Some error.RamTotal) None) room
     ∙ ap (λ over. cond over (Some error.RamTotal) None) (over (used_by_all (after c w)) (2 ^ 62) large)
 
--- the bills that go are a part of what their payers use
-pub leads_within : (c : Change) (gone come : List (Name × ℕ)) (old : Maps) (x : RowsMap × ObjectsMap) → IsBilled old → Leads c gone come old x →
-    (account : Name) → paid account gone ≤ used_of (find name_order account old.1)
-leads_within c gone come old x is leads account = omega (arith, leads.within (paid_by account), is.billed account)
+-- the bills that are removed are a part of what their payers use
+pub leads_within : (c : Change) (removed added : List (Name × ℕ)) (old : Maps) (x : Maps) → IsBilled old → Leads c removed added old x →
+    (account : Name) → paid account removed ≤ used_of (find name_order account old.usage)
+leads_within c removed added old x is leads account = omega (arith, leads.within (paid_by account), is.billed account)
 
 -- usage moves as the bills do, and the rule holds
-pub made : (c : Change) (gone come : List (Name × ℕ)) (old : Maps) (x : RowsMap × ObjectsMap) (shares : List (Name × Share)) →
-    IsBilled old → Leads c gone come old x → IsRebilled gone come old.1 shares → usage_sum shares ≤ 2 ^ 62 → IsMade c old (x, shares)
-made c gone come old x shares is leads rebilled small =
-    let world : world_of (x, shares) ≡ after c (world_of old) = same_quotas x shares old.1 rebilled.quotas ∙ leads.world in
-    let total : used_by_all (world_of (x, shares)) ≡ usage_sum shares = omega (arith, leads.rebills (λ bill. bill.1), rebilled.total, is.total) in
+pub made : (c : Change) (removed added : List (Name × ℕ)) (old : Maps) (x : Maps) (shares : List (Name × Share)) →
+    IsBilled old → Leads c removed added old x → IsRebilled removed added old.usage shares → usage_sum shares ≤ 2 ^ 62 → IsMade c old (with_usage shares x)
+made c removed added old x shares is leads rebilled small =
+    let world : world_of (with_usage shares x) ≡ after c (world_of old) = same_quotas x shares (rebilled.quotas ∙ sym (ap quotas_of leads.usage)) ∙ leads.world in
+    let total : used_by_all (world_of (with_usage shares x)) ≡ usage_sum shares = omega (arith, leads.rebills (λ bill. bill.1), rebilled.total, is.total) in
     record {
       granted = granted_by c (world_of old) leads.placed leads.room (omega (arith, ap used_by_all world, total, small));
       world = world;
@@ -124,14 +124,14 @@ made c gone come old x shares is leads rebilled small =
     }
 
 -- bills that usage can't take in are the change's refusal
-pub unpaid : (c : Change) (gone come : List (Name × ℕ)) (old : Maps) (x : RowsMap × ObjectsMap) (e : WriteError) →
-    IsBilled old → Leads c gone come old x → IsUnpaid gone come old.1 e → IsCause c (world_of old) e
-unpaid c gone come old x error.OutOfMemory is leads h = tt
-unpaid c gone come old x error.WriteRefused is leads h = absurd h
-unpaid c gone come old x error.RamTotal is leads h =
+pub unpaid : (c : Change) (removed added : List (Name × ℕ)) (old : Maps) (x : Maps) (e : WriteError) →
+    IsBilled old → Leads c removed added old x → IsUnpaid removed added old.usage e → IsCause c (world_of old) e
+unpaid c removed added old x error.OutOfMemory is leads h = tt
+unpaid c removed added old x error.WriteRefused is leads h = absurd h
+unpaid c removed added old x error.RamTotal is leads h =
     overfull_by c (world_of old) leads.placed leads.room (omega (arith, h, leads.rebills (λ bill. bill.1), is.total, ap used_by_all leads.world))
-unpaid c gone come old x error.Missing is leads h = absurd h
-unpaid c gone come old x error.Exists is leads h = absurd h
+unpaid c removed added old x error.Missing is leads h = absurd h
+unpaid c removed added old x error.Exists is leads h = absurd h
 
 -- ---- from bills to the maps
 
@@ -140,18 +140,18 @@ pub twice : (first second : Maps → Maps) (old mid new : Stack Maps) → mid �
 twice first second old mid new e e2 = e2 ∙ ap (λ s. with_top (second s.top) s) e
 
 -- what the parts show after the bills and then a map were changed
-pub made_then : (c : Change) (gone come : List (Name × ℕ)) (change : Maps → Maps) (x : RowsMap × ObjectsMap) (old mid new : Stack Maps) →
-    ((shares : List (Name × Share)) → change (old.top.0, shares) ≡ (x, shares)) → IsBilled old.top → Leads c gone come old.top x →
-    IsRebilled gone come old.top.1 mid.top.1 → usage_sum mid.top.1 ≤ 2 ^ 62 → mid ≡ with_top (old.top.0, mid.top.1) old → new ≡ with_top (change mid.top) mid → IsMade c old.top new.top
-made_then c gone come change x old mid new is_x is leads rebilled small same e =
-    let top : new.top ≡ (x, mid.top.1) = ap (λ s. s.top) e ∙ ap (λ s. change (s.top.0, mid.top.1)) same ∙ is_x mid.top.1 in
-    subst (IsMade c old.top) (sym top) (made c gone come old.top x mid.top.1 is leads rebilled small)
+pub made_then : (c : Change) (removed added : List (Name × ℕ)) (change : Maps → Maps) (x : Maps) (old mid new : Stack Maps) →
+    ((shares : List (Name × Share)) → change (with_usage shares old.top) ≡ with_usage shares x) → IsBilled old.top → Leads c removed added old.top x →
+    IsRebilled removed added old.top.usage mid.top.usage → usage_sum mid.top.usage ≤ 2 ^ 62 → mid ≡ with_top (with_usage mid.top.usage old.top) old → new ≡ with_top (change mid.top) mid → IsMade c old.top new.top
+made_then c removed added change x old mid new is_x is leads rebilled small same e =
+    let top : new.top ≡ with_usage mid.top.usage x = ap (λ s. s.top) e ∙ ap (λ s. change s.top) same ∙ is_x mid.top.usage in
+    subst (IsMade c old.top) (sym top) (made c removed added old.top x mid.top.usage is leads rebilled small)
 
 nothing_rebilled : (shares : List (Name × Share)) → T (is_sorted name_order shares) → IsRebilled [] [] shares shares
 nothing_rebilled shares sorted = record { sorted = sorted; used = λ account. refl; total = refl; quotas = refl }
 
 -- where nothing is billed, one map alone is changed
-pub made_alone : (c : Change) (change : Maps → Maps) (x : RowsMap × ObjectsMap) (old new : Stack Maps) → change old.top ≡ (x, old.top.1) → IsBilled old.top → Leads c [] [] old.top x →
+pub made_alone : (c : Change) (change : Maps → Maps) (x : Maps) (old new : Stack Maps) → change old.top ≡ with_usage old.top.usage x → IsBilled old.top → Leads c [] [] old.top x →
     new ≡ with_top (change old.top) old → IsMade c old.top new.top
 made_alone c change x old new is_x is leads e =
-    subst (IsMade c old.top) (sym (ap (λ s. s.top) e ∙ is_x)) (made c [] [] old.top x old.top.1 is leads (nothing_rebilled old.top.1 is.shares) is.small)
+    subst (IsMade c old.top) (sym (ap (λ s. s.top) e ∙ is_x)) (made c [] [] old.top x old.top.usage is leads (nothing_rebilled old.top.usage is.shares) is.small)

@@ -12,29 +12,30 @@ use Rattle.ante_state.specs.declared.objects.AccountRow.{AccountRow}
 use Rattle.ante_state.specs.declared.objects.PermissionRow.{PermissionRow}
 use Rattle.ante_state.specs.declared.objects.LinkKey.{LinkKey}
 use Rattle.ante_types.specs.World.{account_bills, permission_bills, link_bills}
-use Rattle.ante_rows.specs.declared.rows.RowsMap.{RowsMap}
-use Rattle.ante_objects.specs.declared.objects.ObjectsMap.{ObjectsMap}
 use Rattle.ante_objects.specs.Objects.{with_accounts, with_permissions, with_links, with_recent, with_references}
 use Rattle.ante_store.specs.declared.change.Change.TheVariants as change
 use Rattle.ante_store.specs.Bills.{bills_at}
-use Rattle.ante_store.specs.Worlds.{Maps, world_of, IsBilled}
+use Rattle.ante_store.specs.declared.parts.Maps.{Maps}
+use Rattle.ante_store.specs.Worlds.{world_of, IsBilled}
+use Rattle.ante_store.specs.Applied.{in_objects}
 use Rattle.ante_store.proofs.Billed.{weighs, entry_rebills, entry_within}
 use Rattle.ante_store.proofs.KeyOrders.{names_total, names_exact, levels_total, levels_exact, links_total, links_exact, recent_total}
 use Rattle.ante_store.proofs.Made.{Leads}
 
 pub account_leads : (name : Name) (row : AccountRow) (old : Maps) → IsBilled old →
-    Leads (change.SetAccount name row) (bills_at account_bills name (find name_order name old.0.1.accounts)) (account_bills (name, row)) old
-    (old.0.0, with_accounts (changed name_order old.0.1.accounts name (Some row)) old.0.1)
+    Leads (change.SetAccount name row) (bills_at account_bills name (find name_order name old.objects.accounts)) (account_bills (name, row)) old
+    (in_objects (with_accounts (changed name_order old.objects.accounts name (Some row))) old)
 account_leads name row old is =
-    let x : RowsMap × ObjectsMap = (old.0.0, with_accounts (changed name_order old.0.1.accounts name (Some row)) old.0.1) in
+    let x : Maps = in_objects (with_accounts (changed name_order old.objects.accounts name (Some row))) old in
     record {
       placed = refl;
       room = refl;
+      usage = refl;
       world = refl;
-      rebills = λ part. omega (arith, weighs part (world_of old), weighs part (world_of (x, old.1)), entry_rebills name_order names_total names_exact account_bills part old.0.1.accounts name (Some row) is.accounts);
-      within = λ part. omega (arith, weighs part (world_of old), entry_within name_order names_total names_exact account_bills part old.0.1.accounts name);
+      rebills = λ part. omega (arith, weighs part (world_of old), weighs part (world_of x), entry_rebills name_order names_total names_exact account_bills part old.objects.accounts name (Some row) is.accounts);
+      within = λ part. omega (arith, weighs part (world_of old), entry_within name_order names_total names_exact account_bills part old.objects.accounts name);
       kept = record {
-        accounts = sorted_changed name_order names_total old.0.1.accounts name (Some row) is.accounts;
+        accounts = sorted_changed name_order names_total old.objects.accounts name (Some row) is.accounts;
         permissions = is.permissions;
         links = is.links;
         recent = is.recent;
@@ -47,19 +48,20 @@ account_leads name row old is =
     }
 
 pub permission_leads : (level : Level) (row : Option PermissionRow) (old : Maps) → IsBilled old →
-    Leads (change.SetPermission level row) (bills_at permission_bills level (find level_order level old.0.1.permissions)) (bills_at permission_bills level row) old
-    (old.0.0, with_permissions (changed level_order old.0.1.permissions level row) old.0.1)
+    Leads (change.SetPermission level row) (bills_at permission_bills level (find level_order level old.objects.permissions)) (bills_at permission_bills level row) old
+    (in_objects (with_permissions (changed level_order old.objects.permissions level row)) old)
 permission_leads level row old is =
-    let x : RowsMap × ObjectsMap = (old.0.0, with_permissions (changed level_order old.0.1.permissions level row) old.0.1) in
+    let x : Maps = in_objects (with_permissions (changed level_order old.objects.permissions level row)) old in
     record {
       placed = refl;
       room = refl;
+      usage = refl;
       world = refl;
-      rebills = λ part. omega (arith, weighs part (world_of old), weighs part (world_of (x, old.1)), entry_rebills level_order levels_total levels_exact permission_bills part old.0.1.permissions level row is.permissions);
-      within = λ part. omega (arith, weighs part (world_of old), entry_within level_order levels_total levels_exact permission_bills part old.0.1.permissions level);
+      rebills = λ part. omega (arith, weighs part (world_of old), weighs part (world_of x), entry_rebills level_order levels_total levels_exact permission_bills part old.objects.permissions level row is.permissions);
+      within = λ part. omega (arith, weighs part (world_of old), entry_within level_order levels_total levels_exact permission_bills part old.objects.permissions level);
       kept = record {
         accounts = is.accounts;
-        permissions = sorted_changed level_order levels_total old.0.1.permissions level row is.permissions;
+        permissions = sorted_changed level_order levels_total old.objects.permissions level row is.permissions;
         links = is.links;
         recent = is.recent;
         references = is.references;
@@ -71,20 +73,21 @@ permission_leads level row old is =
     }
 
 pub link_leads : (key : LinkKey) (requirement : Option Name) (old : Maps) → IsBilled old →
-    Leads (change.SetLink key.account key.code key.action requirement) (bills_at link_bills key (find link_order key old.0.1.links)) (bills_at link_bills key requirement) old
-    (old.0.0, with_links (changed link_order old.0.1.links key requirement) old.0.1)
+    Leads (change.SetLink key.account key.code key.action requirement) (bills_at link_bills key (find link_order key old.objects.links)) (bills_at link_bills key requirement) old
+    (in_objects (with_links (changed link_order old.objects.links key requirement)) old)
 link_leads key requirement old is =
-    let x : RowsMap × ObjectsMap = (old.0.0, with_links (changed link_order old.0.1.links key requirement) old.0.1) in
+    let x : Maps = in_objects (with_links (changed link_order old.objects.links key requirement)) old in
     record {
       placed = refl;
       room = refl;
+      usage = refl;
       world = refl;
-      rebills = λ part. omega (arith, weighs part (world_of old), weighs part (world_of (x, old.1)), entry_rebills link_order links_total links_exact link_bills part old.0.1.links key requirement is.links);
-      within = λ part. omega (arith, weighs part (world_of old), entry_within link_order links_total links_exact link_bills part old.0.1.links key);
+      rebills = λ part. omega (arith, weighs part (world_of old), weighs part (world_of x), entry_rebills link_order links_total links_exact link_bills part old.objects.links key requirement is.links);
+      within = λ part. omega (arith, weighs part (world_of old), entry_within link_order links_total links_exact link_bills part old.objects.links key);
       kept = record {
         accounts = is.accounts;
         permissions = is.permissions;
-        links = sorted_changed link_order links_total old.0.1.links key requirement is.links;
+        links = sorted_changed link_order links_total old.objects.links key requirement is.links;
         recent = is.recent;
         references = is.references;
         tables = is.tables;
@@ -96,10 +99,11 @@ link_leads key requirement old is =
 
 pub recent_leads : (expiration : ℕ) (id : List ℕ) (there : Bool) (old : Maps) → IsBilled old →
     Leads (change.SetRecent expiration id there) [] [] old
-    (old.0.0, with_recent (changed recent_order old.0.1.recent (record { expiration = expiration; id = id }) (cond there (Some tt) None)) old.0.1)
+    (in_objects (with_recent (changed recent_order old.objects.recent (record { expiration = expiration; id = id }) (cond there (Some tt) None))) old)
 recent_leads expiration id there old is = record {
   placed = refl;
   room = refl;
+  usage = refl;
   world = refl;
   rebills = λ part. refl;
   within = λ part. omega arith;
@@ -107,7 +111,7 @@ recent_leads expiration id there old is = record {
     accounts = is.accounts;
     permissions = is.permissions;
     links = is.links;
-    recent = sorted_changed recent_order recent_total old.0.1.recent (record { expiration = expiration; id = id }) (cond there (Some tt) None) is.recent;
+    recent = sorted_changed recent_order recent_total old.objects.recent (record { expiration = expiration; id = id }) (cond there (Some tt) None) is.recent;
     references = is.references;
     tables = is.tables;
     rows = is.rows;
@@ -118,10 +122,11 @@ recent_leads expiration id there old is = record {
 
 pub reference_leads : (low : ℕ) (id : List ℕ) (old : Maps) → IsBilled old →
     Leads (change.SetReference low id) [] [] old
-    (old.0.0, with_references (changed nat_cmp old.0.1.references low (Some id)) old.0.1)
+    (in_objects (with_references (changed nat_cmp old.objects.references low (Some id))) old)
 reference_leads low id old is = record {
   placed = refl;
   room = refl;
+  usage = refl;
   world = refl;
   rebills = λ part. refl;
   within = λ part. omega arith;
@@ -130,7 +135,7 @@ reference_leads low id old is = record {
     permissions = is.permissions;
     links = is.links;
     recent = is.recent;
-    references = sorted_changed nat_cmp nat_cmp_total old.0.1.references low (Some id) is.references;
+    references = sorted_changed nat_cmp nat_cmp_total old.objects.references low (Some id) is.references;
     tables = is.tables;
     rows = is.rows;
     counted = is.counted;

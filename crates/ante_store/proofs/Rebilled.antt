@@ -1,4 +1,4 @@
--- Usage after one bill more went out of it or came into it.
+-- Usage after one bill more was taken out of it or added to it.
 use Rattle.std.proofs.Common.{◌≡◌, ℕ, suc, ◌+◌, ◌-◌, ◌≤◌, ◌<◌, ◌^◌, ◌==◌, Bool, true, false, cond, T, ℤ, List, [], ◌∷◌, ◌++◌, length, take, slice_index_or, refl, sym, ap, subst, ◌∙◌, arith, Equal}
 use Rattle.std.specs.Ordering.{eq_by_cmp}
 use Rattle.std.specs.Cmp.{IsTotalOrder}
@@ -50,19 +50,19 @@ module _ (o : IsTotalOrder name_order) (exact : (a b : Name) → name_order a b 
   abbrev quota_now : Name → List (Name × Share) → ℤ
   quota_now a es = quota_of (find name_order a es)
 
-  -- one bill more comes in
-  pub one_came : (gone come : List (Name × ℕ)) (k : Name) (size : ℕ) (old mid new : List (Name × Share)) → IsRebilled gone come old mid → new ≡ with_share name_order k (now k mid + size) (quota_now k mid) mid → IsRebilled gone (come ++ (k, size) ∷ []) old new
-  one_came gone come k size old mid new is e = record {
+  -- one bill more is added
+  pub one_added : (removed added : List (Name × ℕ)) (k : Name) (size : ℕ) (old mid new : List (Name × Share)) → IsRebilled removed added old mid → new ≡ with_share name_order k (now k mid + size) (quota_now k mid) mid → IsRebilled removed (added ++ (k, size) ∷ []) old new
+  one_added removed added k size old mid new is e = record {
     sorted = subst (λ m. T (is_sorted name_order m)) (sym e) (sorted_changed name_order o mid k (entry_of (now k mid + size) (quota_now k mid)) is.sorted);
     used = λ a. omega (
       arith,
       ap (λ m. now a m) e,
       used_after k (now k mid + size) (quota_now k mid) mid a,
       is.used a,
-      sum_by_push (paid_by a) come (k, size),
+      sum_by_push (paid_by a) added (k, size),
       raised a (k.0 == a.0) refl,
     );
-    total = omega (arith, ap usage_sum e, sum_share name_order o k (now k mid + size) (quota_now k mid) mid is.sorted, is.total, sum_by_push (λ bill. bill.1) come (k, size));
+    total = omega (arith, ap usage_sum e, sum_share name_order o k (now k mid + size) (quota_now k mid) mid is.sorted, is.total, sum_by_push (λ bill. bill.1) added (k, size));
     quotas = ap quotas_of e ∙ quotas_stand name_order o exact k (now k mid + size) mid is.sorted ∙ is.quotas;
   }
     where
@@ -70,19 +70,19 @@ module _ (o : IsTotalOrder name_order) (exact : (a b : Name) → name_order a b 
       raised a true p = ap (λ b. cond b (now k mid + size) (now a mid)) p ∙ ap (λ x. now x mid + size) (exact k a (is_tied k a p)) ∙ sym (ap (λ b. now a mid + cond b size 0) p)
       raised a false p = ap (λ b. cond b (now k mid + size) (now a mid)) p ∙ omega (arith, ap (λ b. now a mid + cond b size 0) p)
 
-  -- one bill more goes out: the payer used at least as much
-  pub one_gone : (gone come : List (Name × ℕ)) (k : Name) (size : ℕ) (old mid new : List (Name × Share)) → size ≤ now k mid → IsRebilled gone come old mid → new ≡ with_share name_order k (now k mid - size) (quota_now k mid) mid → IsRebilled (gone ++ (k, size) ∷ []) come old new
-  one_gone gone come k size old mid new le is e = record {
+  -- one bill more is taken out: the payer used at least as much
+  pub one_removed : (removed added : List (Name × ℕ)) (k : Name) (size : ℕ) (old mid new : List (Name × Share)) → size ≤ now k mid → IsRebilled removed added old mid → new ≡ with_share name_order k (now k mid - size) (quota_now k mid) mid → IsRebilled (removed ++ (k, size) ∷ []) added old new
+  one_removed removed added k size old mid new le is e = record {
     sorted = subst (λ m. T (is_sorted name_order m)) (sym e) (sorted_changed name_order o mid k (entry_of (now k mid - size) (quota_now k mid)) is.sorted);
     used = λ a. omega (
       arith,
       ap (λ m. now a m) e,
       used_after k (now k mid - size) (quota_now k mid) mid a,
       is.used a,
-      sum_by_push (paid_by a) gone (k, size),
+      sum_by_push (paid_by a) removed (k, size),
       lowered a (k.0 == a.0) refl,
     );
-    total = omega (arith, ap usage_sum e, sum_share name_order o k (now k mid - size) (quota_now k mid) mid is.sorted, is.total, sum_by_push (λ bill. bill.1) gone (k, size), le);
+    total = omega (arith, ap usage_sum e, sum_share name_order o k (now k mid - size) (quota_now k mid) mid is.sorted, is.total, sum_by_push (λ bill. bill.1) removed (k, size), le);
     quotas = ap quotas_of e ∙ quotas_stand name_order o exact k (now k mid - size) mid is.sorted ∙ is.quotas;
   }
     where
@@ -123,17 +123,17 @@ next_fits bills i d old mid lt within is small =
 
 module _ (o : IsTotalOrder name_order) (exact : (a b : Name) → name_order a b ≡ Equal → a ≡ b) where
   -- one turn of the loop that takes bills out, and of the one that adds them
-  pub next_gone : (bills : List (Name × ℕ)) (i : ℕ) (d : Name × ℕ) (old mid : List (Name × Share)) (new : List (Name × Share)) → i < length bills → ((a : Name) → paid a bills ≤ used_of (find name_order a old)) → IsRebilled (take i bills) [] old mid →
+  pub next_removed : (bills : List (Name × ℕ)) (i : ℕ) (d : Name × ℕ) (old mid : List (Name × Share)) (new : List (Name × Share)) → i < length bills → ((a : Name) → paid a bills ≤ used_of (find name_order a old)) → IsRebilled (take i bills) [] old mid →
       new ≡ with_share name_order (slice_index_or bills i d).0 (used_of (find name_order (slice_index_or bills i d).0 mid) - (slice_index_or bills i d).1) (quota_of (find name_order (slice_index_or bills i d).0 mid)) mid → IsRebilled (take (i + 1) bills) [] old new
-  next_gone bills i d old mid new lt within is e =
+  next_removed bills i d old mid new lt within is e =
       let bill = slice_index_or bills i d in
-      subst (λ gone. IsRebilled gone [] old new) (sym (take_next bills i d lt)) (one_gone o exact (take i bills) [] bill.0 bill.1 old mid new (next_within bills i d old mid lt within is) is e)
+      subst (λ removed. IsRebilled removed [] old new) (sym (take_next bills i d lt)) (one_removed o exact (take i bills) [] bill.0 bill.1 old mid new (next_within bills i d old mid lt within is) is e)
 
-  pub next_came : (bills : List (Name × ℕ)) (i : ℕ) (d : Name × ℕ) (old mid : List (Name × Share)) (new : List (Name × Share)) → i < length bills → IsRebilled [] (take i bills) old mid →
+  pub next_added : (bills : List (Name × ℕ)) (i : ℕ) (d : Name × ℕ) (old mid : List (Name × Share)) (new : List (Name × Share)) → i < length bills → IsRebilled [] (take i bills) old mid →
       new ≡ with_share name_order (slice_index_or bills i d).0 (used_of (find name_order (slice_index_or bills i d).0 mid) + (slice_index_or bills i d).1) (quota_of (find name_order (slice_index_or bills i d).0 mid)) mid → IsRebilled [] (take (i + 1) bills) old new
-  next_came bills i d old mid new lt is e =
+  next_added bills i d old mid new lt is e =
       let bill = slice_index_or bills i d in
-      subst (λ come. IsRebilled [] come old new) (sym (take_next bills i d lt)) (one_came o exact [] (take i bills) bill.0 bill.1 old mid new is e)
+      subst (λ added. IsRebilled [] added old new) (sym (take_next bills i d lt)) (one_added o exact [] (take i bills) bill.0 bill.1 old mid new is e)
 
   -- and the sum stays within bounds where the bill was let in
   pub next_small : (k : Name) (size : ℕ) (mid new : List (Name × Share)) → T (is_sorted name_order mid) → new ≡ with_share name_order k (used_of (find name_order k mid) + size) (quota_of (find name_order k mid)) mid → usage_sum mid + size ≤ 2 ^ 62 → usage_sum new ≤ 2 ^ 62

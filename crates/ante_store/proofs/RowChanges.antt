@@ -18,13 +18,13 @@ use Rattle.ante_state.specs.declared.tables.RowKey.{RowKey}
 use Rattle.ante_state.specs.declared.tables.TableRow.{TableRow}
 use Rattle.ante_state.specs.declared.tables.PrimaryRow.{PrimaryRow}
 use Rattle.ante_types.specs.World.{table_bills, row_bills}
-use Rattle.ante_rows.specs.declared.rows.RowsMap.{RowsMap}
-use Rattle.ante_objects.specs.declared.objects.ObjectsMap.{ObjectsMap}
 use Rattle.ante_store.specs.declared.change.Change.TheVariants as change
 use Rattle.ante_store.specs.declared.change.WriteError.TheVariants as error
 use Rattle.ante_store.specs.Bills.{bills_at, opening_bills, closing_bills}
 use Rattle.ante_store.specs.Changes.{with_row, without_row, count_of, is_full}
-use Rattle.ante_store.specs.Worlds.{Maps, world_of, of_table, IsBilled}
+use Rattle.ante_store.specs.declared.parts.Maps.{Maps}
+use Rattle.ante_store.specs.Worlds.{world_of, of_table, IsBilled}
+use Rattle.ante_store.specs.Applied.{in_rows}
 use Rattle.ante_store.proofs.Billed.{weighs, entry_rebills, entry_within}
 use Rattle.ante_store.proofs.KeyOrders.{tables_total, tables_exact, rows_total, rows_exact}
 use Rattle.ante_store.proofs.Made.{Leads}
@@ -135,29 +135,27 @@ closed part table (Some t) = elim (nat_le t.count 1) as (λ b. sum_by part (bill
 -- ---- the changes
 
 pub store_leads : (table : TableKey) (primary : ℕ) (payer : Name) (bytes : List ℕ) (old : Maps) → IsBilled old →
-    find row_order (record { table = table; primary = primary }) old.0.0.rows ≡ None → is_full (change.StoreRow table primary payer bytes) (world_of old) ≡ false →
-    Leads (change.StoreRow table primary payer bytes) [] (opening_bills (find table_order table old.0.0.tables) payer ++ (payer, 112 + length bytes) ∷ []) old (
-      record {
-        tables = changed table_order old.0.0.tables table (Some (with_row (find table_order table old.0.0.tables) payer));
-        rows = changed row_order old.0.0.rows (record { table = table; primary = primary }) (Some (record { payer = payer; bytes = bytes }));
-      },
-      old.0.1,
-    )
+    find row_order (record { table = table; primary = primary }) old.rows.rows ≡ None → is_full (change.StoreRow table primary payer bytes) (world_of old) ≡ false →
+    Leads (change.StoreRow table primary payer bytes) [] (opening_bills (find table_order table old.rows.tables) payer ++ (payer, 112 + length bytes) ∷ []) old (in_rows (λ m. record {
+      tables = changed table_order old.rows.tables table (Some (with_row (find table_order table old.rows.tables) payer));
+      rows = changed row_order old.rows.rows (record { table = table; primary = primary }) (Some (record { payer = payer; bytes = bytes }));
+    }) old)
 store_leads table primary payer bytes old is absent room =
     let key : RowKey = record { table = table; primary = primary } in
     let row : PrimaryRow = record { payer = payer; bytes = bytes } in
-    let tables = old.0.0.tables in
-    let rows = old.0.0.rows in
+    let tables = old.rows.tables in
+    let rows = old.rows.rows in
     let object = find table_order table tables in
-    let x : RowsMap × ObjectsMap = (record { tables = changed table_order tables table (Some (with_row object payer)); rows = changed row_order rows key (Some row) }, old.0.1) in
+    let x : Maps = in_rows (λ m. record { tables = changed table_order tables table (Some (with_row object payer)); rows = changed row_order rows key (Some row) }) old in
     record {
       placed = ap (λ found. cond (is_some found) (Some error.Exists) None) absent;
       room = room;
+      usage = refl;
       world = refl;
       rebills = λ part. omega (
         arith,
         weighs part (world_of old),
-        weighs part (world_of (x, old.1)),
+        weighs part (world_of x),
         entry_rebills table_order tables_total tables_exact table_bills part tables table (Some (with_row object payer)) is.tables,
         opened part table object payer,
         entry_rebills row_order rows_total rows_exact row_bills part rows key (Some row) is.rows,
@@ -179,27 +177,25 @@ store_leads table primary payer bytes old is absent room =
     }
 
 pub update_leads : (table : TableKey) (primary : ℕ) (payer : Name) (bytes : List ℕ) (was : PrimaryRow) (old : Maps) → IsBilled old →
-    find row_order (record { table = table; primary = primary }) old.0.0.rows ≡ Some was →
-    Leads (change.UpdateRow table primary payer bytes) ((was.payer, 112 + length was.bytes) ∷ []) ((payer, 112 + length bytes) ∷ []) old (
-      record {
-        tables = old.0.0.tables;
-        rows = changed row_order old.0.0.rows (record { table = table; primary = primary }) (Some (record { payer = payer; bytes = bytes }));
-      },
-      old.0.1,
-    )
+    find row_order (record { table = table; primary = primary }) old.rows.rows ≡ Some was →
+    Leads (change.UpdateRow table primary payer bytes) ((was.payer, 112 + length was.bytes) ∷ []) ((payer, 112 + length bytes) ∷ []) old (in_rows (λ m. record {
+      tables = old.rows.tables;
+      rows = changed row_order old.rows.rows (record { table = table; primary = primary }) (Some (record { payer = payer; bytes = bytes }));
+    }) old)
 update_leads table primary payer bytes was old is there =
     let key : RowKey = record { table = table; primary = primary } in
     let row : PrimaryRow = record { payer = payer; bytes = bytes } in
-    let rows = old.0.0.rows in
-    let x : RowsMap × ObjectsMap = (record { tables = old.0.0.tables; rows = changed row_order rows key (Some row) }, old.0.1) in
+    let rows = old.rows.rows in
+    let x : Maps = in_rows (λ m. record { tables = old.rows.tables; rows = changed row_order rows key (Some row) }) old in
     record {
       placed = ap (λ found. cond (is_some found) None (Some error.Missing)) there;
       room = refl;
+      usage = refl;
       world = refl;
       rebills = λ part. omega (
         arith,
         weighs part (world_of old),
-        weighs part (world_of (x, old.1)),
+        weighs part (world_of x),
         entry_rebills row_order rows_total rows_exact row_bills part rows key (Some row) is.rows,
         ap (λ found. sum_by part (bills_at row_bills key found)) there,
       );
@@ -228,20 +224,17 @@ update_leads table primary payer bytes was old is there =
     }
 
 pub remove_leads : (table : TableKey) (primary : ℕ) (was : PrimaryRow) (old : Maps) → IsBilled old →
-    find row_order (record { table = table; primary = primary }) old.0.0.rows ≡ Some was →
-    Leads (change.RemoveRow table primary) (closing_bills (find table_order table old.0.0.tables) ++ (was.payer, 112 + length was.bytes) ∷ []) [] old (
-      record {
-        tables = changed table_order old.0.0.tables table (without_row (find table_order table old.0.0.tables));
-        rows = changed row_order old.0.0.rows (record { table = table; primary = primary }) None;
-      },
-      old.0.1,
-    )
+    find row_order (record { table = table; primary = primary }) old.rows.rows ≡ Some was →
+    Leads (change.RemoveRow table primary) (closing_bills (find table_order table old.rows.tables) ++ (was.payer, 112 + length was.bytes) ∷ []) [] old (in_rows (λ m. record {
+      tables = changed table_order old.rows.tables table (without_row (find table_order table old.rows.tables));
+      rows = changed row_order old.rows.rows (record { table = table; primary = primary }) None;
+    }) old)
 remove_leads table primary was old is there =
     let key : RowKey = record { table = table; primary = primary } in
-    let tables = old.0.0.tables in
-    let rows = old.0.0.rows in
+    let tables = old.rows.tables in
+    let rows = old.rows.rows in
     let object = find table_order table tables in
-    let x : RowsMap × ObjectsMap = (record { tables = changed table_order tables table (without_row object); rows = changed row_order rows key None }, old.0.1) in
+    let x : Maps = in_rows (λ m. record { tables = changed table_order tables table (without_row object); rows = changed row_order rows key None }) old in
     let has : 1 ≤ count_of object = omega (
       arith,
       weight_within row_order (of_table table) (alike table) key rows,
@@ -253,11 +246,12 @@ remove_leads table primary was old is there =
     record {
       placed = ap (λ found. cond (is_some found) None (Some error.Missing)) there;
       room = refl;
+      usage = refl;
       world = refl;
       rebills = λ part. omega (
         arith,
         weighs part (world_of old),
-        weighs part (world_of (x, old.1)),
+        weighs part (world_of x),
         entry_rebills table_order tables_total tables_exact table_bills part tables table (without_row object) is.tables,
         closed part table object,
         entry_rebills row_order rows_total rows_exact row_bills part rows key None is.rows,

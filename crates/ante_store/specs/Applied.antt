@@ -5,19 +5,23 @@ use Rattle.ante_rows.specs.declared.rows.RowsMap.{RowsMap}
 use Rattle.ante_objects.specs.declared.objects.ObjectsMap.{ObjectsMap}
 use Rattle.ante_ram.specs.declared.parts.Share.{Share}
 use Rattle.ante_ram.specs.Usage.{usage_sum}
+use Rattle.ante_store.specs.declared.parts.Maps.{Maps}
 use Rattle.ante_store.specs.declared.change.Change.{Change}
 use Rattle.ante_store.specs.declared.change.WriteError.{WriteError}
 use Rattle.ante_store.specs.declared.change.WriteError.TheVariants as error
 use Rattle.ante_store.specs.Bills.{sizes}
 use Rattle.ante_store.specs.Changes.{after, refusal, IsCause}
-use Rattle.ante_store.specs.Worlds.{Maps, world_of, IsBilled}
+use Rattle.ante_store.specs.Worlds.{world_of, IsBilled}
 
--- a change of the one half of the maps beside usage
+-- a change of the rows, of the objects, or of the usage alone
 abbrev pub in_rows : (RowsMap → RowsMap) → Maps → Maps
-in_rows change m = ((change m.0.0, m.0.1), m.1)
+in_rows change m = record { rows = change m.rows; objects = m.objects; usage = m.usage }
 
 abbrev pub in_objects : (ObjectsMap → ObjectsMap) → Maps → Maps
-in_objects change m = ((m.0.0, change m.0.1), m.1)
+in_objects change m = record { rows = m.rows; objects = change m.objects; usage = m.usage }
+
+abbrev pub with_usage : List (Name × Share) → Maps → Maps
+with_usage usage m = record { rows = m.rows; objects = m.objects; usage = usage }
 
 -- the change was granted and is made, with its bills
 pub record IsMade (c : Change) (old new : Maps) : Type 0 where
@@ -26,14 +30,14 @@ pub record IsMade (c : Change) (old new : Maps) : Type 0 where
   pub billed : IsBilled new
 
 -- it is made, or the answer says why not
-abbrev pub Answers : Change → Maps → Maps → Result (Unit {0}) WriteError → Type 0
-Answers c old new (Ok done) = IsMade c old new
-Answers c old new (Err e) = IsCause c (world_of old) e
+abbrev pub MadeOrRefused : Change → Maps → Maps → Result (Unit {0}) WriteError → Type 0
+MadeOrRefused c old new (Ok done) = IsMade c old new
+MadeOrRefused c old new (Err e) = IsCause c (world_of old) e
 
 -- usage can't take the bills in: memory is wanting, or all together would use more than 2^62 bytes
-abbrev pub IsUnpaid : (gone come : List (Name × ℕ)) → List (Name × Share) → WriteError → Type 0
-IsUnpaid gone come shares error.OutOfMemory = Unit {0}
-IsUnpaid gone come shares error.RamTotal = 2 ^ 62 + sizes gone < usage_sum shares + sizes come
-IsUnpaid gone come shares error.WriteRefused = ⊥
-IsUnpaid gone come shares error.Missing = ⊥
-IsUnpaid gone come shares error.Exists = ⊥
+abbrev pub IsUnpaid : (removed added : List (Name × ℕ)) → List (Name × Share) → WriteError → Type 0
+IsUnpaid removed added shares error.OutOfMemory = Unit {0}
+IsUnpaid removed added shares error.RamTotal = 2 ^ 62 + sizes removed < usage_sum shares + sizes added
+IsUnpaid removed added shares error.WriteRefused = ⊥
+IsUnpaid removed added shares error.Missing = ⊥
+IsUnpaid removed added shares error.Exists = ⊥

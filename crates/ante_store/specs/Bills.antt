@@ -26,11 +26,11 @@ paid account bills = sum_by (paid_by account) bills
 abbrev pub sizes : List (Name × ℕ) → ℕ
 sizes bills = sum_by (λ bill. bill.1) bills
 
--- these bills went out of the usage, those came into it, and nothing else changed
-pub record IsRebilled (gone come : List (Name × ℕ)) (old new : List (Name × Share)) : Type 0 where
+-- these bills were taken out of the usage, those were added to it, and nothing else changed
+pub record IsRebilled (removed added : List (Name × ℕ)) (old new : List (Name × Share)) : Type 0 where
   pub sorted : T (is_sorted name_order new)
-  pub used : (account : Name) → used_of (find name_order account new) + paid account gone ≡ used_of (find name_order account old) + paid account come
-  pub total : usage_sum new + sizes gone ≡ usage_sum old + sizes come
+  pub used : (account : Name) → used_of (find name_order account new) + paid account removed ≡ used_of (find name_order account old) + paid account added
+  pub total : usage_sum new + sizes removed ≡ usage_sum old + sizes added
   pub quotas : quotas_of new ≡ quotas_of old
 
 -- the bills of the entry at a key, if there is one
@@ -47,6 +47,6 @@ abbrev pub closing_bills : Option TableRow → List (Name × ℕ)
 closing_bills None = []
 closing_bills (Some table) = if nat_le table.count 1 then (table.payer, 112) ∷ [] else []
 
--- From the one world to the other these bills go, and those come, whatever is summed up of them.
-abbrev pub Rebills : (gone come : List (Name × ℕ)) → World → World → Type 0
-Rebills gone come w w2 = (part : Name × ℕ → ℕ) → sum_by part (bills w2) + sum_by part gone ≡ sum_by part (bills w) + sum_by part come
+-- From the one world to the other these bills are removed and those are added, whatever is summed up of them.
+abbrev pub Rebills : (removed added : List (Name × ℕ)) → World → World → Type 0
+Rebills removed added w w2 = (part : Name × ℕ → ℕ) → sum_by part (bills w2) + sum_by part removed ≡ sum_by part (bills w) + sum_by part added

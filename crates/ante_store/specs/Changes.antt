@@ -76,7 +76,12 @@ abbrev pub misplaced : Change → World → Option WriteError
 misplaced (change.StoreRow table primary payer bytes) w = if is_some (row_at table primary w) then Some error.Exists else None
 misplaced (change.UpdateRow table primary payer bytes) w = if is_some (row_at table primary w) then None else Some error.Missing
 misplaced (change.RemoveRow table primary) w = if is_some (row_at table primary w) then None else Some error.Missing
-misplaced _ w = None
+misplaced (change.SetAccount name row) w = None
+misplaced (change.SetPermission level row) w = None
+misplaced (change.SetLink account code action requirement) w = None
+misplaced (change.SetQuota account quota) w = None
+misplaced (change.SetRecent expiration id there) w = None
+misplaced (change.SetReference low id) w = None
 
 -- the most rows of a table
 abbrev pub most_rows : ℕ
@@ -85,7 +90,14 @@ most_rows = 4294967295
 -- one table would have too many rows
 abbrev pub is_full : Change → World → Bool
 is_full (change.StoreRow table primary payer bytes) w = nat_le most_rows (count_of (find table_order table w.tables))
-is_full _ w = false
+is_full (change.UpdateRow table primary payer bytes) w = false
+is_full (change.RemoveRow table primary) w = false
+is_full (change.SetAccount name row) w = false
+is_full (change.SetPermission level row) w = false
+is_full (change.SetLink account code action requirement) w = false
+is_full (change.SetQuota account quota) w = false
+is_full (change.SetRecent expiration id there) w = false
+is_full (change.SetReference low id) w = false
 
 -- all accounts together would use too much
 abbrev pub is_too_much : Change → World → Bool

@@ -15,7 +15,8 @@ use Rattle.ante_types.specs.Genesis.{eosio, genesis_head}
 use Rattle.ante_types.specs.World.{World}
 use Rattle.ante_store.specs.declared.change.Change.TheVariants as change
 use Rattle.ante_store.specs.Changes.{after}
-use Rattle.ante_store.specs.Worlds.{Maps, world_of, IsBilled}
+use Rattle.ante_store.specs.declared.parts.Maps.{Maps}
+use Rattle.ante_store.specs.Worlds.{world_of, IsBilled}
 
 abbrev pub owner : Name
 owner = record { 0 = name_number (codes "owner") }

@@ -2,7 +2,7 @@
 ghost use Rattle.std.specs.Prelude.{◌≡◌, ◌+◌, ◌^◌, ◌<◌, length, OnOk, OnErr};
 ghost use Rattle.ante_undo.specs.Stack.{with_top, IsAbove};
 ghost use Rattle.ante_store.specs.Worlds.{IsBilled};
-ghost use Rattle.ante_store.specs.Applied.{Answers};
+ghost use Rattle.ante_store.specs.Applied.{MadeOrRefused};
 
 use crate::apply_objects::{
     set_account, set_link, set_permission, set_quota, set_recent, set_reference,
@@ -18,7 +18,7 @@ use std::alloc::Global;
 pub(crate) fn apply(alloc: Global, parts: &mut Parts, change: Change) -> Result<(), WriteError>
     requires above { IsAbove 1 parts.old }
     requires billed { IsBilled parts.old.top }
-    ensures answers { Answers change parts.old.top parts.new.top result }
+    ensures answers { MadeOrRefused change parts.old.top parts.new.top result }
     ensures top { parts.new ≡ with_top parts.new.top parts.old }
 {
     match change {
@@ -63,7 +63,7 @@ pub(crate) fn apply_whole(
     requires above { IsAbove 1 parts.old }
     requires small { parts.old.revision + 1 < 2 ^ 63 }
     requires billed { IsBilled parts.old.top }
-    ensures answers { Answers change parts.old.top parts.new.top result }
+    ensures answers { MadeOrRefused change parts.old.top parts.new.top result }
     ensures ok { OnOk result (parts.new ≡ with_top parts.new.top parts.old) }
     ensures err { OnErr result (parts.new ≡ parts.old) }
 {

@@ -3,11 +3,11 @@ ghost use Rattle.std.specs.Prelude.{◌≡◌};
 ghost use Rattle.ante_undo.specs.Stack.{with_top, IsAbove};
 ghost use Rattle.ante_store.specs.declared.change.Change.TheVariants as change;
 ghost use Rattle.ante_store.specs.Worlds.{IsBilled};
-ghost use Rattle.ante_store.specs.Applied.{Answers};
+ghost use Rattle.ante_store.specs.Applied.{MadeOrRefused};
 
 use crate::billing::rebill;
 use crate::bills::{
-    account_gone, link_gone, of_account, of_link, permission_come, permission_gone,
+    added_permission, of_account, of_link, removed_account, removed_link, removed_permission,
 };
 use crate::change::WriteError;
 use crate::maps;
@@ -24,12 +24,12 @@ pub(crate) fn set_account(
 ) -> Result<(), WriteError>
     requires above { IsAbove 1 parts.old }
     requires billed { IsBilled parts.old.top }
-    ensures answers { Answers (change.SetAccount name row) parts.old.top parts.new.top result }
+    ensures answers { MadeOrRefused (change.SetAccount name row) parts.old.top parts.new.top result }
     ensures top { parts.new ≡ with_top parts.new.top parts.old }
 {
-    let gone = account_gone(parts, name);
-    let come = of_account(name, &row);
-    rebill(alloc, parts, &gone, &come)?;
+    let removed = removed_account(parts, name);
+    let added = of_account(name, &row);
+    rebill(alloc, parts, &removed, &added)?;
     maps::put_account(alloc, parts, name, row)?;
     Ok(())
 }
@@ -42,12 +42,12 @@ pub(crate) fn set_permission(
 ) -> Result<(), WriteError>
     requires above { IsAbove 1 parts.old }
     requires billed { IsBilled parts.old.top }
-    ensures answers { Answers (change.SetPermission level row) parts.old.top parts.new.top result }
+    ensures answers { MadeOrRefused (change.SetPermission level row) parts.old.top parts.new.top result }
     ensures top { parts.new ≡ with_top parts.new.top parts.old }
 {
-    let gone = permission_gone(parts, level);
-    let come = permission_come(level, &row);
-    rebill(alloc, parts, &gone, &come)?;
+    let removed = removed_permission(parts, level);
+    let added = added_permission(level, &row);
+    rebill(alloc, parts, &removed, &added)?;
     maps::put_permission(alloc, parts, level, row)?;
     Ok(())
 }
@@ -62,12 +62,12 @@ pub(crate) fn set_link(
 ) -> Result<(), WriteError>
     requires above { IsAbove 1 parts.old }
     requires billed { IsBilled parts.old.top }
-    ensures answers { Answers (change.SetLink account code action requirement) parts.old.top parts.new.top result }
+    ensures answers { MadeOrRefused (change.SetLink account code action requirement) parts.old.top parts.new.top result }
     ensures top { parts.new ≡ with_top parts.new.top parts.old }
 {
-    let gone = link_gone(parts, account, code, action);
-    let come = of_link(account, code, action, requirement);
-    rebill(alloc, parts, &gone, &come)?;
+    let removed = removed_link(parts, account, code, action);
+    let added = of_link(account, code, action, requirement);
+    rebill(alloc, parts, &removed, &added)?;
     maps::put_link(alloc, parts, account, code, action, requirement)?;
     Ok(())
 }
@@ -80,7 +80,7 @@ pub(crate) fn set_quota(
 ) -> Result<(), WriteError>
     requires above { IsAbove 1 parts.old }
     requires billed { IsBilled parts.old.top }
-    ensures answers { Answers (change.SetQuota account quota) parts.old.top parts.new.top result }
+    ensures answers { MadeOrRefused (change.SetQuota account quota) parts.old.top parts.new.top result }
     ensures top { parts.new ≡ with_top parts.new.top parts.old }
 {
     match maps::put_quota(alloc, parts, account, quota) {
@@ -98,7 +98,7 @@ pub(crate) fn set_recent(
 ) -> Result<(), WriteError>
     requires above { IsAbove 1 parts.old }
     requires billed { IsBilled parts.old.top }
-    ensures answers { Answers (change.SetRecent expiration id there) parts.old.top parts.new.top result }
+    ensures answers { MadeOrRefused (change.SetRecent expiration id there) parts.old.top parts.new.top result }
     ensures top { parts.new ≡ with_top parts.new.top parts.old }
 {
     maps::put_recent(alloc, parts, expiration, id, there)?;
@@ -113,7 +113,7 @@ pub(crate) fn set_reference(
 ) -> Result<(), WriteError>
     requires above { IsAbove 1 parts.old }
     requires billed { IsBilled parts.old.top }
-    ensures answers { Answers (change.SetReference low id) parts.old.top parts.new.top result }
+    ensures answers { MadeOrRefused (change.SetReference low id) parts.old.top parts.new.top result }
     ensures top { parts.new ≡ with_top parts.new.top parts.old }
 {
     maps::put_reference(alloc, parts, low, id)?;

@@ -4,7 +4,7 @@ ghost use Rattle.ante_undo.specs.Stack.{with_top, IsAbove};
 ghost use Rattle.ante_store.specs.declared.change.Change.TheVariants as change;
 ghost use Rattle.ante_store.specs.Changes.{with_row, without_row, count_of};
 ghost use Rattle.ante_store.specs.Worlds.{IsBilled};
-ghost use Rattle.ante_store.specs.Applied.{Answers};
+ghost use Rattle.ante_store.specs.Applied.{MadeOrRefused};
 
 use crate::billing::rebill;
 use crate::bills::{Bills, row_bill, with_closing, with_opening};
@@ -29,7 +29,7 @@ pub(crate) fn store_row(
 ) -> Result<(), WriteError>
     requires above { IsAbove 1 parts.old }
     requires billed { IsBilled parts.old.top }
-    ensures answers { Answers (change.StoreRow table primary payer bytes) parts.old.top parts.new.top result }
+    ensures answers { MadeOrRefused (change.StoreRow table primary payer bytes) parts.old.top parts.new.top result }
     ensures top { parts.new ≡ with_top parts.new.top parts.old }
 {
     if has_row(parts, &table, primary) {
@@ -39,8 +39,8 @@ pub(crate) fn store_row(
     if count_of(object) >= MOST_ROWS {
         return Err(WriteError::RamTotal);
     }
-    let come = with_opening(object, payer, row_bill(payer, &bytes));
-    rebill(alloc, parts, &Bills::none(), &come)?;
+    let added = with_opening(object, payer, row_bill(payer, &bytes));
+    rebill(alloc, parts, &Bills::none(), &added)?;
     maps::set_table(alloc, parts, table, Some(with_row(object, payer)))?;
     maps::put_row(alloc, parts, table, primary, PrimaryRow { payer, bytes })?;
     Ok(())
@@ -56,15 +56,15 @@ pub(crate) fn update_row(
 ) -> Result<(), WriteError>
     requires above { IsAbove 1 parts.old }
     requires billed { IsBilled parts.old.top }
-    ensures answers { Answers (change.UpdateRow table primary payer bytes) parts.old.top parts.new.top result }
+    ensures answers { MadeOrRefused (change.UpdateRow table primary payer bytes) parts.old.top parts.new.top result }
     ensures top { parts.new ≡ with_top parts.new.top parts.old }
 {
     let Some(was) = row_at(parts, &table, primary) else {
         return Err(WriteError::Missing);
     };
-    let gone = Bills::one(row_bill(was.payer, &was.bytes));
-    let come = Bills::one(row_bill(payer, &bytes));
-    rebill(alloc, parts, &gone, &come)?;
+    let removed = Bills::one(row_bill(was.payer, &was.bytes));
+    let added = Bills::one(row_bill(payer, &bytes));
+    rebill(alloc, parts, &removed, &added)?;
     maps::put_row(alloc, parts, table, primary, PrimaryRow { payer, bytes })?;
     Ok(())
 }
@@ -77,7 +77,7 @@ pub(crate) fn remove_row(
 ) -> Result<(), WriteError>
     requires above { IsAbove 1 parts.old }
     requires billed { IsBilled parts.old.top }
-    ensures answers { Answers (change.RemoveRow table primary) parts.old.top parts.new.top result }
+    ensures answers { MadeOrRefused (change.RemoveRow table primary) parts.old.top parts.new.top result }
     ensures top { parts.new ≡ with_top parts.new.top parts.old }
 {
     let Some(was) = row_at(parts, &table, primary) else {
@@ -85,8 +85,8 @@ pub(crate) fn remove_row(
     };
     let row = row_bill(was.payer, &was.bytes);
     let object = table_at(parts, &table);
-    let gone = with_closing(object, row);
-    rebill(alloc, parts, &gone, &Bills::none())?;
+    let removed = with_closing(object, row);
+    rebill(alloc, parts, &removed, &Bills::none())?;
     maps::set_table(alloc, parts, table, without_row(object))?;
     maps::remove_row(alloc, parts, &table, primary)?;
     Ok(())

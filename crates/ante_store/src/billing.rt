@@ -7,7 +7,7 @@ ghost use Rattle.ante_ram.specs.Usage.{used_of, quota_of, usage_sum, with_share}
 ghost use Rattle.ante_ram.specs.declared.usage.RamFault.TheVariants.{OutOfMemory, RamTotal};
 ghost use Rattle.ante_store.specs.Bills.{paid, sizes, IsRebilled};
 ghost use Rattle.ante_store.specs.Worlds.{IsBilled};
-ghost use Rattle.ante_store.specs.Applied.{IsUnpaid};
+ghost use Rattle.ante_store.specs.Applied.{IsUnpaid, with_usage};
 
 use crate::bills::{Bill, Bills};
 use crate::change::WriteError;
@@ -77,36 +77,42 @@ pub(crate) fn raise_all(alloc: Global, usage: &mut Usage, bills: &[Bill]) -> Res
 }
 
 /// Takes bills out of the usage, which holds them, and adds others.
-fn exchange(alloc: Global, usage: &mut Usage, gone: &Bills, come: &Bills) -> Result<(), RamFault>
+fn exchange(
+    alloc: Global,
+    usage: &mut Usage,
+    removed: &Bills,
+    added: &Bills,
+) -> Result<(), RamFault>
     requires above { IsAbove 1 usage.old }
     requires sorted { IsTrue (is_sorted name_order usage.old.top) }
     requires small { usage_sum usage.old.top ≤ 2 ^ 62 }
-    requires within { (account : Name) → paid account gone.now ≤ used_of (find name_order account usage.old.top) }
-    ensures ok { OnOk result (IsRebilled gone.now come.now usage.old.top usage.new.top) }
+    requires within { (account : Name) → paid account removed.now ≤ used_of (find name_order account usage.old.top) }
+    ensures ok { OnOk result (IsRebilled removed.now added.now usage.old.top usage.new.top) }
     ensures top { usage.new ≡ with_top usage.new.top usage.old }
-    ensures total { result ≡ Err RamTotal → 2 ^ 62 + sizes gone.now < usage_sum usage.old.top + sizes come.now }
+    ensures total { result ≡ Err RamTotal → 2 ^ 62 + sizes removed.now < usage_sum usage.old.top + sizes added.now }
     ensures small { OnOk result (usage_sum usage.new.top ≤ 2 ^ 62) }
 {
-    lower_all(alloc, usage, gone.as_slice())?;
-    raise_all(alloc, usage, come.as_slice())
+    lower_all(alloc, usage, removed.as_slice())?;
+    raise_all(alloc, usage, added.as_slice())
 }
 
 /// Takes bills out of what accounts use, and adds others. Nothing else changes.
 pub(crate) fn rebill(
     alloc: Global,
     parts: &mut Parts,
-    gone: &Bills,
-    come: &Bills,
+    removed: &Bills,
+    added: &Bills,
 ) -> Result<(), WriteError>
     requires above { IsAbove 1 parts.old }
     requires billed { IsBilled parts.old.top }
-    requires within { (account : Name) → paid account gone.now ≤ used_of (find name_order account parts.old.top.1) }
-    ensures ok { OnOk result (IsRebilled gone.now come.now parts.old.top.1 parts.new.top.1) }
-    ensures same { parts.new ≡ with_top (parts.old.top.0, parts.new.top.1) parts.old }
-    ensures small { OnOk result (usage_sum parts.new.top.1 ≤ 2 ^ 62) }
-    ensures err { IfErr result (IsUnpaid gone.now come.now parts.old.top.1) }
+    requires within { (account : Name) → paid account removed.now ≤ used_of (find name_order account parts.old.top.usage) }
+    ensures ok { OnOk result (IsRebilled removed.now added.now parts.old.top.usage parts.new.top.usage) }
+    ensures same { parts.new ≡ with_top (with_usage parts.new.top.usage parts.old.top) parts.old }
+    ensures small { OnOk result (usage_sum parts.new.top.usage ≤ 2 ^ 62) }
+    ensures err { IfErr result (IsUnpaid removed.now added.now parts.old.top.usage) }
 {
-    match exchange(alloc, &mut parts.second, gone, come) {
+    let both = &mut parts.inner;
+    match exchange(alloc, &mut both.second, removed, added) {
         Ok(()) => Ok(()),
         Err(RamFault::RamTotal) => Err(WriteError::RamTotal),
         Err(RamFault::OutOfMemory) => Err(WriteError::OutOfMemory),

@@ -127,8 +127,8 @@ pub(crate) fn of_permission(level: Level, row: &PermissionRow) -> Bills
 }
 
 /// The bills of the account as it stands.
-pub(crate) fn account_gone(parts: &Parts, name: Name) -> Bills
-    ensures { result ≡ bills_at account_bills name (find name_order name parts.now.top.0.1.accounts) }
+pub(crate) fn removed_account(parts: &Parts, name: Name) -> Bills
+    ensures { result ≡ bills_at account_bills name (find name_order name parts.now.top.objects.accounts) }
 {
     match objects_of(parts).account(name) {
         Some(row) => of_account(name, row),
@@ -137,8 +137,8 @@ pub(crate) fn account_gone(parts: &Parts, name: Name) -> Bills
 }
 
 /// The bill of the permission as it stands.
-pub(crate) fn permission_gone(parts: &Parts, level: Level) -> Bills
-    ensures { result ≡ bills_at permission_bills level (find level_order level parts.now.top.0.1.permissions) }
+pub(crate) fn removed_permission(parts: &Parts, level: Level) -> Bills
+    ensures { result ≡ bills_at permission_bills level (find level_order level parts.now.top.objects.permissions) }
 {
     match objects_of(parts).permission(level) {
         Some(row) => of_permission(level, row),
@@ -147,7 +147,7 @@ pub(crate) fn permission_gone(parts: &Parts, level: Level) -> Bills
 }
 
 /// The bill of the permission as it will stand, if it will.
-pub(crate) fn permission_come(level: Level, row: &Option<PermissionRow>) -> Bills
+pub(crate) fn added_permission(level: Level, row: &Option<PermissionRow>) -> Bills
     ensures { result ≡ bills_at permission_bills level row.now }
 {
     match row {
@@ -157,8 +157,8 @@ pub(crate) fn permission_come(level: Level, row: &Option<PermissionRow>) -> Bill
 }
 
 /// The bill of the link as it stands.
-pub(crate) fn link_gone(parts: &Parts, account: Name, code: Name, action: Name) -> Bills
-    ensures { result ≡ bills_at link_bills (record { account = account; code = code; action = action }) (find link_order (record { account = account; code = code; action = action }) parts.now.top.0.1.links) }
+pub(crate) fn removed_link(parts: &Parts, account: Name, code: Name, action: Name) -> Bills
+    ensures { result ≡ bills_at link_bills (record { account = account; code = code; action = action }) (find link_order (record { account = account; code = code; action = action }) parts.now.top.objects.links) }
 {
     let requirement = objects_of(parts).link(account, code, action);
     of_link(account, code, action, requirement)

@@ -9,7 +9,7 @@ ghost use Rattle.ante_state.specs.Orders.{name_order, table_order, row_order, le
 ghost use Rattle.ante_objects.specs.Objects.{with_accounts, with_permissions, with_links, with_recent, with_references};
 ghost use Rattle.ante_ram.specs.Usage.{used_of, with_share};
 ghost use Rattle.ante_ram.specs.declared.usage.RamFault.TheVariants.{OutOfMemory};
-ghost use Rattle.ante_store.specs.Applied.{in_rows, in_objects};
+ghost use Rattle.ante_store.specs.Applied.{in_rows, in_objects, with_usage};
 
 use crate::parts::Parts;
 use ante_objects::Objects;
@@ -20,34 +20,34 @@ use ante_state::{AccountRow, PermissionRow, PrimaryRow, TableRow};
 use std::alloc::{AllocError, Global};
 
 pub(crate) fn rows_of(parts: &Parts) -> &Rows
-    ensures { result.now.top ≡ parts.now.top.0.0 }
+    ensures { result.now.top ≡ parts.now.top.rows }
 {
-    &parts.first.first
+    &parts.inner.first.first
 }
 
 pub(crate) fn objects_of(parts: &Parts) -> &Objects
-    ensures { result.now.top ≡ parts.now.top.0.1 }
+    ensures { result.now.top ≡ parts.now.top.objects }
 {
-    &parts.first.second
+    &parts.inner.first.second
 }
 
 /// The table object.
 pub(crate) fn table_at(parts: &Parts, table: &TableKey) -> Option<TableRow>
-    ensures { result ≡ find table_order table.now parts.now.top.0.0.tables }
+    ensures { result ≡ find table_order table.now parts.now.top.rows.tables }
 {
     rows_of(parts).table(table).copied()
 }
 
 /// The row.
 pub(crate) fn row_at<'a>(parts: &'a Parts, table: &TableKey, primary: u64) -> Option<&'a PrimaryRow>
-    ensures { option_copied result ≡ find row_order (record { table = table.now; primary = primary }) parts.now.top.0.0.rows }
+    ensures { option_copied result ≡ find row_order (record { table = table.now; primary = primary }) parts.now.top.rows.rows }
 {
     rows_of(parts).row(table, primary)
 }
 
 /// Whether the row is there.
 pub(crate) fn has_row(parts: &Parts, table: &TableKey, primary: u64) -> bool
-    ensures { result ≡ is_some (find row_order (record { table = table.now; primary = primary }) parts.now.top.0.0.rows) }
+    ensures { result ≡ is_some (find row_order (record { table = table.now; primary = primary }) parts.now.top.rows.rows) }
 {
     row_at(parts, table, primary).is_some()
 }
@@ -63,7 +63,8 @@ pub(crate) fn put_row(
     ensures ok { OnOk result (parts.new ≡ with_top (in_rows (λ m. record { tables = m.tables; rows = changed row_order m.rows (record { table = table; primary = primary }) (Some row) }) parts.old.top) parts.old) }
     ensures err { OnErr result (parts.new ≡ parts.old) }
 {
-    let first = &mut parts.first;
+    let both = &mut parts.inner;
+    let first = &mut both.first;
     first.first.put_row(alloc, table, primary, row)
 }
 
@@ -77,7 +78,8 @@ pub(crate) fn remove_row(
     ensures ok { OnOk result (parts.new ≡ with_top (in_rows (λ m. record { tables = m.tables; rows = changed row_order m.rows (record { table = table.now; primary = primary }) None }) parts.old.top) parts.old) }
     ensures err { OnErr result (parts.new ≡ parts.old) }
 {
-    let first = &mut parts.first;
+    let both = &mut parts.inner;
+    let first = &mut both.first;
     match first.first.remove_row(alloc, table, primary) {
         Ok(_) => Ok(()),
         Err(refused) => Err(refused),
@@ -94,7 +96,8 @@ pub(crate) fn set_table(
     ensures ok { OnOk result (parts.new ≡ with_top (in_rows (λ m. record { tables = changed table_order m.tables table row; rows = m.rows }) parts.old.top) parts.old) }
     ensures err { OnErr result (parts.new ≡ parts.old) }
 {
-    let first = &mut parts.first;
+    let both = &mut parts.inner;
+    let first = &mut both.first;
     first.first.set_table(alloc, table, row)
 }
 
@@ -108,7 +111,8 @@ pub(crate) fn put_account(
     ensures ok { OnOk result (parts.new ≡ with_top (in_objects (λ m. with_accounts (changed name_order m.accounts name (Some row)) m) parts.old.top) parts.old) }
     ensures err { OnErr result (parts.new ≡ parts.old) }
 {
-    let first = &mut parts.first;
+    let both = &mut parts.inner;
+    let first = &mut both.first;
     first.second.set_account(alloc, name, Some(row))
 }
 
@@ -122,7 +126,8 @@ pub(crate) fn put_permission(
     ensures ok { OnOk result (parts.new ≡ with_top (in_objects (λ m. with_permissions (changed level_order m.permissions level row) m) parts.old.top) parts.old) }
     ensures err { OnErr result (parts.new ≡ parts.old) }
 {
-    let first = &mut parts.first;
+    let both = &mut parts.inner;
+    let first = &mut both.first;
     first.second.set_permission(alloc, level, row)
 }
 
@@ -138,7 +143,8 @@ pub(crate) fn put_link(
     ensures ok { OnOk result (parts.new ≡ with_top (in_objects (λ m. with_links (changed link_order m.links (record { account = account; code = code; action = action }) requirement) m) parts.old.top) parts.old) }
     ensures err { OnErr result (parts.new ≡ parts.old) }
 {
-    let first = &mut parts.first;
+    let both = &mut parts.inner;
+    let first = &mut both.first;
     first
         .second
         .set_link(alloc, account, code, action, requirement)
@@ -155,7 +161,8 @@ pub(crate) fn put_recent(
     ensures ok { OnOk result (parts.new ≡ with_top (in_objects (λ m. with_recent (changed recent_order m.recent (record { expiration = expiration; id = id }) (if there then Some tt else None)) m) parts.old.top) parts.old) }
     ensures err { OnErr result (parts.new ≡ parts.old) }
 {
-    let first = &mut parts.first;
+    let both = &mut parts.inner;
+    let first = &mut both.first;
     first.second.set_recent(alloc, expiration, id, there)
 }
 
@@ -169,7 +176,8 @@ pub(crate) fn put_reference(
     ensures ok { OnOk result (parts.new ≡ with_top (in_objects (λ m. with_references (changed nat_cmp m.references low (Some id)) m) parts.old.top) parts.old) }
     ensures err { OnErr result (parts.new ≡ parts.old) }
 {
-    let first = &mut parts.first;
+    let both = &mut parts.inner;
+    let first = &mut both.first;
     first.second.set_reference(alloc, low, Some(id))
 }
 
@@ -180,9 +188,10 @@ pub(crate) fn put_quota(
     quota: i64,
 ) -> Result<(), RamFault>
     requires above { IsAbove 1 parts.old }
-    ensures ok { OnOk result (parts.new ≡ with_top (parts.old.top.0, with_share name_order account (used_of (find name_order account parts.old.top.1)) quota parts.old.top.1) parts.old) }
+    ensures ok { OnOk result (parts.new ≡ with_top (with_usage (with_share name_order account (used_of (find name_order account parts.old.top.usage)) quota parts.old.top.usage) parts.old.top) parts.old) }
     ensures fault { IfErr result (λ fault. fault ≡ OutOfMemory) }
     ensures err { OnErr result (parts.new ≡ parts.old) }
 {
-    parts.second.set_quota(alloc, account, quota)
+    let both = &mut parts.inner;
+    both.second.set_quota(alloc, account, quota)
 }

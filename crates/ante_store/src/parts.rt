@@ -1,25 +1,50 @@
+// What the store is made of.
 ghost use Rattle.std.specs.Prelude.{◌≡◌, [], ◌<◌, ◌^◌};
 ghost use Rattle.ante_undo.specs.Stack.{opened};
+ghost use Rattle.ante_store.specs.Shown.{shown_maps};
 
-use ante_objects::Objects;
-use ante_ram::Usage;
-use ante_rows::Rows;
-use ante_sessions::Both;
+use ante_objects::{Objects, ObjectsMap};
+use ante_pack::Name;
+use ante_ram::{Share, Usage};
+use ante_rows::{Rows, RowsMap};
+use ante_sessions::{Both, Entries, Kept, Shape};
 use std::alloc::Global;
+use std::marker::PhantomData;
+
+/// The maps of the store as contracts name them. None is ever made.
+pub struct Maps {
+    pub rows: RowsMap,
+    pub objects: ObjectsMap,
+    pub usage: Entries<Name, Share>,
+}
+
+pub struct MapsShape;
+
+impl Shape<Both<Both<Rows, Objects>, Usage>> for MapsShape {
+    type Shown = Maps;
+
+    ghost shown = { shown_maps };
+
+    ghost holds = { λ m. Unit {0} };
+}
 
 /// Rows, objects and usage in the same sessions.
-pub(crate) type Parts = Both<Both<Rows, Objects>, Usage>;
+pub(crate) type Parts = Kept<Both<Both<Rows, Objects>, Usage>, MapsShape>;
 
 /// Nothing at all, at the revision.
 pub(crate) fn no_parts(alloc: Global, revision: u64) -> Parts
     requires small { revision < 2 ^ 63 }
-    ensures { result ≡ opened ((record { tables = []; rows = [] }, record { accounts = []; permissions = []; links = []; recent = []; references = [] }), []) revision }
+    ensures { result ≡ opened (record { rows = record { tables = []; rows = [] }; objects = record { accounts = []; permissions = []; links = []; recent = []; references = [] }; usage = [] }) revision }
 {
-    Both {
-        first: Both {
-            first: Rows::new(alloc, revision),
-            second: Objects::new(alloc, revision),
+    let both = Both {
+        first: Rows::new(alloc, revision),
+        second: Objects::new(alloc, revision),
+    };
+    Kept {
+        inner: Both {
+            first: both,
+            second: Usage::new(alloc, revision),
         },
-        second: Usage::new(alloc, revision),
+        shape: PhantomData,
     }
 }

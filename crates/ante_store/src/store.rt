@@ -1,13 +1,14 @@
 ghost use Rattle.std.specs.Prelude.{◌≡◌, ◌<◌, length, true, None, OnOk, OnErr, IfErr};
 ghost use Rattle.std.specs.FinMap.Entries.{find};
-ghost use Rattle.ante_undo.specs.Stack.{opened, with_top, IsAbove};
+ghost use Rattle.ante_undo.specs.Stack.{opened, with_top, under_top, IsAbove};
+ghost use Rattle.ante_sessions.specs.Seen.{Throughout};
 ghost use Rattle.ante_pack.specs.declared.names.Name.{Name};
 ghost use Rattle.ante_state.specs.Orders.{name_order};
 ghost use Rattle.ante_types.specs.World.{used};
 ghost use Rattle.ante_ram.specs.Usage.{used_of};
 ghost use Rattle.ante_store.specs.Bills.{quotas_of};
 ghost use Rattle.ante_store.specs.Changes.{after, refusal, IsCause};
-ghost use Rattle.ante_store.specs.Worlds.{world_of, IsBilled};
+ghost use Rattle.ante_store.specs.Worlds.{world_of, IsBilled, IsWorld};
 
 use crate::apply::apply_whole;
 use crate::change::{Change, WriteError};
@@ -69,7 +70,7 @@ impl Store {
         ensures tables { result.now.top.tables ≡ self.now.top.tables }
         ensures rows { result.now.top.rows ≡ self.now.top.rows }
     {
-        &self.kept.inner.first.first
+        &self.kept.inner.inner.first.first
     }
 
     /// The chain's own objects.
@@ -80,15 +81,25 @@ impl Store {
         ensures recent { result.now.top.recent ≡ self.now.top.recent }
         ensures references { result.now.top.references ≡ self.now.top.references }
     {
-        &self.kept.inner.first.second
+        &self.kept.inner.inner.first.second
     }
 
     /// What accounts use and may use.
     pub fn usage(&self) -> &Usage
         ensures used { (account : Name) → used_of (find name_order account result.now.top) ≡ used self.now.top account }
         ensures quotas { quotas_of result.now.top ≡ self.now.top.quotas }
+        ensures sessions { length result.now.under ≡ length self.now.under }
+        ensures used_under { (account : Name) → used_of (find name_order account (under_top result.now)) ≡ used (under_top self.now) account }
+        ensures quotas_under { quotas_of (under_top result.now) ≡ (under_top self.now).quotas }
     {
-        &self.kept.inner.second
+        &self.kept.inner.inner.second
+    }
+
+    /// What a world is holds of each one in the stack. The proof is all that this is for.
+    pub fn worlds_hold(&self)
+        ensures { Throughout IsWorld self.now }
+    {
+        let _parts = &self.kept.inner;
     }
 
     /// A store of these parts alone, at revision 1.

@@ -9,15 +9,15 @@ use Rattle.ante_store.proofs.ObjectChanges.{link_leads}
 use Rattle.ante_store.proofs.apply_objects.set_link.Goals as goal
 
 pub rebill-requires-clause-within : goal.rebill-requires-clause-within
-rebill-requires-clause-within c = leads_within _ _ _ _ _ c.requires.billed (leads_as _ _ _ _ _ _ _ c.link_gone-gone.ensures c.of_link-come.ensures (link_leads (record { account = c.args.account; code = c.args.code; action = c.args.action }) c.args.requirement c.args.parts.now.top c.requires.billed))
+rebill-requires-clause-within c = leads_within _ _ _ _ _ c.requires.billed (leads_as _ _ _ _ _ _ _ c.removed_link-removed.ensures c.of_link-added.ensures (link_leads (record { account = c.args.account; code = c.args.code; action = c.args.action }) c.args.requirement c.args.parts.now.top c.requires.billed))
 
 pub returns-in_err-rebill-clause-answers : goal.returns-in_err-rebill-clause-answers
 returns-in_err-rebill-clause-answers c =
     let p = err_from_is_err_and c.from_residual.result c.from_residual.ensures.1 in
-    rw (p.1, p.2) (unpaid _ _ _ _ _ _ c.requires.billed (leads_as _ _ _ _ _ _ _ c.link_gone-gone.ensures c.of_link-come.ensures (link_leads (record { account = c.args.account; code = c.args.code; action = c.args.action }) c.args.requirement c.args.parts.now.top c.requires.billed)) c.in_err-rebill.ensures.err)
+    rw (p.1, p.2) (unpaid _ _ _ _ _ _ c.requires.billed (leads_as _ _ _ _ _ _ _ c.removed_link-removed.ensures c.of_link-added.ensures (link_leads (record { account = c.args.account; code = c.args.code; action = c.args.action }) c.args.requirement c.args.parts.now.top c.requires.billed)) c.in_err-rebill.ensures.err)
 
 pub returns-clause-answers : goal.returns-clause-answers
 returns-clause-answers c =
     made_then _ _ _ (in_objects (λ m. with_links (changed link_order m.links (record { account = c.args.account; code = c.args.code; action = c.args.action }) c.args.requirement) m)) _ c.args.parts.now c.rebill.new.parts c.put_link.new.parts (λ shares. refl) c.requires.billed
-    (leads_as _ _ _ _ _ _ _ c.link_gone-gone.ensures c.of_link-come.ensures (link_leads (record { account = c.args.account; code = c.args.code; action = c.args.action }) c.args.requirement c.args.parts.now.top c.requires.billed))
+    (leads_as _ _ _ _ _ _ _ c.removed_link-removed.ensures c.of_link-added.ensures (link_leads (record { account = c.args.account; code = c.args.code; action = c.args.action }) c.args.requirement c.args.parts.now.top c.requires.billed))
     c.in_ok-rebill.ensures.ok c.in_ok-rebill.ensures.small c.in_ok-rebill.ensures.same c.in_ok-put_link.ensures.ok
