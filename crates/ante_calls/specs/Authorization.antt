@@ -1,5 +1,5 @@
 -- What a run asks of the levels of its action and of accounts, and whom it notifies and what it sends.
-use Rattle.std.specs.Prelude.{ℕ, ◌==◌, Bool, true, false, not, ◌||◌, nat_le, List, [], ◌∷◌, ◌++◌, length, Option, None, Some, Result, Ok, Err, if◌then◌else◌}
+use Rattle.std.specs.Prelude.{ℕ, Bool, true, false, not, ◌||◌, nat_le, List, [], ◌∷◌, ◌++◌, length, Option, None, Some, Result, Ok, Err, if◌then◌else◌}
 use Rattle.std.specs.List.{list_any}
 use Rattle.ante_pack.specs.Forms.{whole}
 use Rattle.ante_pack.specs.declared.fault.PackFault.{PackFault}
@@ -10,7 +10,6 @@ use Rattle.ante_types.specs.declared.chain.Action.{Action}
 use Rattle.ante_types.specs.declared.context.RunContext.{RunContext}
 use Rattle.ante_types.specs.declared.failure.Failure.{Failure}
 use Rattle.ante_types.specs.declared.failure.Failure.TheVariants as failure
-use Rattle.ante_types.specs.World.{World}
 use Rattle.ante_wmem.specs.Linear.{LinearMemory}
 use Rattle.ante_wmem.specs.HostCalls.{Reply, Outcome, value, nothing, refused}
 use Rattle.ante_calls.specs.Accounts.{same_name, no_name, is_account, is_privileged, is_actor, has_level}

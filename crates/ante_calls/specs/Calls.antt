@@ -1,13 +1,13 @@
 -- A call of an intrinsic as a pure function of what it sees. What a call does stands in this order: the ranges that its arguments name must
 -- lie in the memory; the bytes that it moves are paid; in reading mode a call that writes is refused; then come its own refusals.
-use Rattle.std.specs.Prelude.{ℕ, ◌+◌, ◌-◌, ◌/◌, ◌%◌, ◌^◌, ◌==◌, ℤ, nat_lt, min, List, [], length, take, drop, codes, position, slice_index_or, Option, None, Some, if◌then◌else◌}
+use Rattle.std.specs.Prelude.{ℕ, ◌+◌, ◌-◌, ◌/◌, ◌%◌, ◌^◌, ◌==◌, ℤ, nat_lt, min, List, [], length, take, drop, position, slice_index_or, Option, None, Some, if◌then◌else◌}
 use Rattle.std.specs.Int.{w32, cast_signed, cast_unsigned}
 use Rattle.ante_pack.specs.declared.names.Name.{Name}
 use Rattle.ante_types.specs.declared.context.Mode.{Mode}
 use Rattle.ante_types.specs.declared.context.Mode.TheVariants as mode
 use Rattle.ante_types.specs.declared.failure.Failure.{Failure}
 use Rattle.ante_types.specs.declared.failure.Failure.TheVariants as failure
-use Rattle.ante_wmem.specs.Linear.{LinearMemory, is_inside, bytes_at, written}
+use Rattle.ante_wmem.specs.Linear.{LinearMemory, is_inside, bytes_at}
 use Rattle.ante_wmem.specs.HostCalls.{Reply, Outcome, value, nothing, exit, refused, step_limit}
 
 -- ---- arguments

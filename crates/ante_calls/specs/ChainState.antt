@@ -3,7 +3,6 @@ use Rattle.std.specs.Prelude.{ℕ, ℤ, negsuc, int_lt, Bool, not, ◌||◌, Lis
 use Rattle.std.specs.Int.{w64, cast_signed}
 use Rattle.ante_types.specs.declared.failure.Failure.{Failure}
 use Rattle.ante_types.specs.declared.failure.Failure.TheVariants as failure
-use Rattle.ante_types.specs.World.{World}
 use Rattle.ante_store.specs.declared.change.Change.{Change}
 use Rattle.ante_store.specs.declared.change.Change.TheVariants as change
 use Rattle.ante_store.specs.declared.change.WriteError.{WriteError}

@@ -1,6 +1,6 @@
 -- The calls on the rows of a secondary index, for keys of 64, 128 and 256 bits. A row stands by its key and then its primary key. The state
 -- has no such rows yet: where they stand in it, and the changes that make them, are a parameter (`IndexRows`).
-use Rattle.std.specs.Prelude.{ℕ, ◌+◌, ◌*◌, ◌==◌, ℤ, Bool, true, false, not, List, [], ◌∷◌, ◌++◌, take, drop, codes, Option, None, Some, Result, Ok, Err, option_map, if◌then◌else◌}
+use Rattle.std.specs.Prelude.{ℕ, ◌+◌, ◌==◌, ℤ, Bool, false, List, ◌++◌, take, drop, codes, Option, None, Some, option_map, if◌then◌else◌}
 use Rattle.std.specs.declared.cmp.Ordering.{Ordering}
 use Rattle.std.specs.Int.{w64, w128, to_le_bytes, from_le_bytes}
 use Rattle.std.specs.Ordering.{nat_cmp, ordering_then, eq_by_cmp, is_gt, is_ge}
@@ -8,13 +8,12 @@ use Rattle.ante_undo.specs.Entries.{first_where}
 use Rattle.ante_pack.specs.declared.names.Name.{Name}
 use Rattle.ante_pack.specs.declared.names.TableKey.{TableKey}
 use Rattle.ante_pack.specs.declared.names.Key256.{Key256}
-use Rattle.ante_types.specs.declared.context.Mode.{Mode}
 use Rattle.ante_types.specs.declared.context.RunContext.{RunContext}
 use Rattle.ante_types.specs.declared.failure.Failure.{Failure}
 use Rattle.ante_types.specs.declared.failure.Failure.TheVariants as failure
 use Rattle.ante_types.specs.World.{World}
 use Rattle.ante_store.specs.declared.change.Change.{Change}
-use Rattle.ante_wmem.specs.Linear.{LinearMemory, written}
+use Rattle.ante_wmem.specs.Linear.{LinearMemory}
 use Rattle.ante_wmem.specs.HostCalls.{Reply, Outcome, value}
 use Rattle.ante_calls.specs.declared.calls.IndexCall.{IndexCall}
 use Rattle.ante_calls.specs.declared.calls.IndexCall.TheVariants as calls

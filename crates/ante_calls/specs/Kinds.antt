@@ -1,8 +1,8 @@
 -- The four kinds of rows of a table: primary rows, and the rows of the three secondary indexes. The calls on rows are written once over the
 -- kind: P is the place of a row in the order of its kind, R the rest of it, V what is stored in it.
-use Rattle.std.specs.Prelude.{ℕ, Bool, false, nat_lt, List, length, Option, None, Some, option_map}
+use Rattle.std.specs.Prelude.{ℕ, Bool, nat_lt, List, length, Option, Some}
 use Rattle.std.specs.declared.cmp.Ordering.{Ordering}
-use Rattle.std.specs.Ordering.{nat_cmp, ordering_then}
+use Rattle.std.specs.Ordering.{nat_cmp}
 use Rattle.std.specs.FinMap.Entries.{find}
 use Rattle.ante_pack.specs.declared.names.Name.{Name}
 use Rattle.ante_pack.specs.declared.names.TableKey.{TableKey}

@@ -1,5 +1,5 @@
 -- Calls on the memory alone. Each range must lie in the memory, and n bytes are paid for.
-use Rattle.std.specs.Prelude.{ℕ, ◌-◌, ◌%◌, nat_lt, List, length, replicate, if◌then◌else◌}
+use Rattle.std.specs.Prelude.{ℕ, ◌%◌, nat_lt, List, length, replicate, if◌then◌else◌}
 use Rattle.std.specs.declared.cmp.Ordering.{Ordering}
 use Rattle.std.specs.declared.cmp.Ordering.TheVariants.{Less, Equal, Greater}
 use Rattle.std.specs.Ordering.{nat_cmp}

@@ -1,14 +1,13 @@
 -- The calls on primary rows, by their names as imports. A call on the receiver's own tables leaves out the contract.
-use Rattle.std.specs.Prelude.{ℕ, ◌-◌, ◌==◌, ℤ, List, length, codes, Option, None, Some, Ok, Err, option_map}
+use Rattle.std.specs.Prelude.{ℕ, ℤ, List, length, codes, Ok, Err, option_map}
 use Rattle.std.specs.Ordering.{nat_cmp}
 use Rattle.std.specs.FinMap.Entries.{find}
 use Rattle.ante_undo.specs.Entries.{entry_from, entry_after}
 use Rattle.ante_pack.specs.declared.names.TableKey.{TableKey}
-use Rattle.ante_state.specs.declared.tables.PrimaryRow.{PrimaryRow}
 use Rattle.ante_types.specs.declared.context.RunContext.{RunContext}
 use Rattle.ante_types.specs.declared.failure.Failure.{Failure}
 use Rattle.ante_wmem.specs.Linear.{LinearMemory, written}
-use Rattle.ante_wmem.specs.HostCalls.{Reply, Outcome, value}
+use Rattle.ante_wmem.specs.HostCalls.{Outcome, value}
 use Rattle.ante_calls.specs.declared.calls.RowCall.{RowCall}
 use Rattle.ante_calls.specs.declared.calls.RowCall.TheVariants as calls
 use Rattle.ante_calls.specs.declared.faults.DbFault.TheVariants as fault

@@ -1,6 +1,6 @@
 -- What the calls on the rows of a table do, without their arguments' places in memory: the answer, the state and the iterators after it, or
 -- the first refusal. Each is written once for primary rows and for the rows of the three indexes.
-use Rattle.std.specs.Prelude.{ℕ, ◌==◌, ℤ, negsuc, int_lt, Bool, true, false, not, ◌&&◌, ◌||◌, List, [], length, Option, None, Some, is_some, option_map, Result, Ok, Err, if◌then◌else◌}
+use Rattle.std.specs.Prelude.{ℕ, ◌==◌, ℤ, int_lt, Bool, true, false, not, ◌&&◌, ◌||◌, List, Option, None, Some, is_some, option_map, Result, Ok, Err, if◌then◌else◌}
 use Rattle.std.specs.FinMap.Entries.{find}
 use Rattle.ante_undo.specs.Entries.{entry_after, entry_before}
 use Rattle.ante_pack.specs.declared.names.Name.{Name}
@@ -18,10 +18,9 @@ use Rattle.ante_store.specs.Changes.{after, refusal}
 use Rattle.ante_calls.specs.declared.faults.DbFault.{DbFault}
 use Rattle.ante_calls.specs.declared.faults.DbFault.TheVariants as fault
 use Rattle.ante_calls.specs.Accounts.{same_name, is_account, may_bill}
-use Rattle.ante_calls.specs.Calls.{shorter}
 use Rattle.ante_calls.specs.Iterators.{Iterators, no_iterator, meet_table, end_table, meet_row, live_row, row_removed}
 use Rattle.ante_calls.specs.Kinds.{Kind}
-use Rattle.ante_calls.specs.Views.{RowView, with_iters}
+use Rattle.ante_calls.specs.Views.{RowView}
 
 -- the answer with what the run sees then, or why the call is refused: then the state stands as before
 abbrev pub Answer : Type 0 → Type 0

@@ -1,6 +1,6 @@
 -- An action with all that it causes: it runs for its account, then for each recipient in the order in which it was first named, then each
 -- inline action that was sent in these runs, whole before the next.
-use Rattle.std.specs.Prelude.{◌≡◌, ℕ, zero, suc, ◌+◌, ◌-◌, Bool, true, false, List, [], ◌∷◌, ◌++◌, length, replicate, slice_get, slice_index_or, Option, None, Some, Result, Ok, Err}
+use Rattle.std.specs.Prelude.{ℕ, zero, suc, ◌+◌, ◌-◌, Bool, true, false, List, [], ◌∷◌, ◌++◌, length, replicate, slice_get, slice_index_or, Option, None, Some, Result, Ok, Err}
 use Rattle.ante_pack.specs.declared.names.Name.{Name}
 use Rattle.ante_types.specs.declared.chain.Action.{Action}
 use Rattle.ante_types.specs.declared.context.Mode.{Mode}

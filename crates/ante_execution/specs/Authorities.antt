@@ -1,9 +1,8 @@
 -- Who may send an action: the weights that satisfy a permission, and the permission that an action asks for.
-use Rattle.std.specs.Prelude.{ℕ, zero, suc, ◌+◌, ◌==◌, nat_le, Bool, true, false, not, ◌||◌, List, [], ◌∷◌, length, sum_by, bytes_eq, Option, None, Some, Result, Ok, Err, unwrap_or, if◌then◌else◌}
+use Rattle.std.specs.Prelude.{ℕ, zero, suc, ◌+◌, nat_le, Bool, false, not, ◌||◌, List, [], ◌∷◌, length, sum_by, bytes_eq, Option, None, Some, Result, Ok, Err, unwrap_or, if◌then◌else◌}
 use Rattle.std.specs.List.{list_any}
 use Rattle.std.specs.Option.{option_or}
 use Rattle.std.specs.FinMap.Entries.{find}
-use Rattle.ante_pack.specs.declared.authority.Authority.{Authority}
 use Rattle.ante_pack.specs.declared.authority.KeyWeight.{KeyWeight}
 use Rattle.ante_pack.specs.declared.authority.Level.{Level}
 use Rattle.ante_pack.specs.declared.authority.LevelWeight.{LevelWeight}

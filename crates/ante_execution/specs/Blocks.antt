@@ -1,6 +1,6 @@
 -- Blocks: what the first and the last act of one make of the state, and what its transactions make of it between, or the number of the first
 -- failure.
-use Rattle.std.specs.Prelude.{◌≡◌, ℕ, zero, suc, ◌+◌, ◌%◌, ◌^◌, ◌==◌, Bool, List, [], ◌∷◌, Option, None, Some, Result, Ok, Err, if◌then◌else◌}
+use Rattle.std.specs.Prelude.{ℕ, zero, suc, ◌+◌, ◌%◌, ◌==◌, List, [], ◌∷◌, Option, None, Some, Result, Ok, Err, if◌then◌else◌}
 use Rattle.ante_pack.specs.declared.fault.PackFault.{PackFault}
 use Rattle.ante_pack.specs.Forms.{whole}
 use Rattle.ante_state.specs.declared.objects.RecentKey.{RecentKey}
@@ -12,7 +12,6 @@ use Rattle.ante_types.specs.declared.chain.Receipt.{Receipt}
 use Rattle.ante_types.specs.declared.chain.Transaction.{Transaction}
 use Rattle.ante_types.specs.declared.failure.Failure.{Failure}
 use Rattle.ante_types.specs.declared.failure.Failure.TheVariants as failure
-use Rattle.ante_types.specs.declared.trace.Trace.{Trace}
 use Rattle.ante_types.specs.Failures.{failure_code}
 use Rattle.ante_types.specs.Ids.{block_id, block_num}
 use Rattle.ante_types.specs.World.{World}

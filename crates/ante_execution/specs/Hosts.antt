@@ -1,5 +1,5 @@
 -- A call as the host of a run makes it: the intrinsic, and for an inline action whether its levels are satisfied.
-use Rattle.std.specs.Prelude.{◌≡◌, ℕ, ◌-◌, Bool, true, false, List, [], ◌∷◌, length, drop, Option, None, Some, if◌then◌else◌}
+use Rattle.std.specs.Prelude.{ℕ, ◌-◌, Bool, true, false, List, [], ◌∷◌, length, drop, Option, None, Some, if◌then◌else◌}
 use Rattle.ante_undo.specs.Stack.{Stack, Shelf}
 use Rattle.ante_types.specs.declared.chain.Action.{Action}
 use Rattle.ante_types.specs.declared.context.RunContext.{RunContext}
@@ -10,7 +10,6 @@ use Rattle.ante_wmem.specs.HostCalls.{Reply, Outcome, HostMeaning, value, nothin
 use Rattle.ante_calls.specs.Accounts.{same_name}
 use Rattle.ante_calls.specs.declared.calls.Intrinsic.{Intrinsic}
 use Rattle.ante_calls.specs.declared.calls.Intrinsic.TheVariants as group
-use Rattle.ante_calls.specs.declared.calls.SysCall.{SysCall}
 use Rattle.ante_calls.specs.declared.calls.SysCall.TheVariants as sys
 use Rattle.ante_calls.specs.Numbers.{Indexes, intrinsic_at, intrinsic}
 use Rattle.ante_calls.specs.Views.{Seen}

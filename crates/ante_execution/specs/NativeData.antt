@@ -1,5 +1,5 @@
 -- The native actions by their names, and the data of each, its fields in order.
-use Rattle.std.specs.Prelude.{ℕ, List, [], ◌∷◌, codes, Option, None, Some, option_map, find, ◌==◌, if◌then◌else◌}
+use Rattle.std.specs.Prelude.{ℕ, List, [], ◌∷◌, codes, Option, None, option_map, find, ◌==◌, if◌then◌else◌}
 use Rattle.ante_pack.specs.declared.authority.Authority.{Authority}
 use Rattle.ante_pack.specs.declared.names.Name.{Name}
 use Rattle.ante_pack.specs.Forms.{Form, pair, made_of, string}

@@ -1,5 +1,5 @@
 -- Refusals in order: of several the first is given.
-use Rattle.std.specs.Prelude.{List, [], ◌∷◌, Option, None, Some, Result, Ok, Err}
+use Rattle.std.specs.Prelude.{List, [], ◌∷◌, Option, None, Some, Result, Err}
 use Rattle.std.specs.Option.{option_or}
 
 -- the value at the first item that has one

@@ -1,6 +1,5 @@
 -- deleteauth(account, permission): one that isn't `owner` or `active`, and that neither a permission nor a link of the account needs.
-use Rattle.std.specs.Prelude.{Bool, not, ◌||◌, List, [], ◌∷◌, Option, None, Some, if◌then◌else◌}
-use Rattle.std.specs.List.{list_any}
+use Rattle.std.specs.Prelude.{not, ◌||◌, List, [], ◌∷◌, Option, None, Some, if◌then◌else◌}
 use Rattle.ante_pack.specs.declared.authority.Level.{Level}
 use Rattle.ante_types.specs.declared.failure.Failure.{Failure}
 use Rattle.ante_types.specs.declared.failure.Failure.TheVariants as failure

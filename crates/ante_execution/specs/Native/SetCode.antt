@@ -1,5 +1,5 @@
 -- setcode(account, vmtype, vmversion, code): the account's code, which is taken away where there is none. One step for each whole 64 bytes of it.
-use Rattle.std.specs.Prelude.{ℕ, ◌/◌, ◌==◌, Bool, not, ◌&&◌, ◌||◌, List, [], ◌∷◌, length, codes, Option, None, Some, Result, Ok, Err, if◌then◌else◌}
+use Rattle.std.specs.Prelude.{ℕ, ◌/◌, ◌==◌, Bool, not, ◌&&◌, List, [], ◌∷◌, length, codes, Option, None, Some, Result, Ok, Err, if◌then◌else◌}
 use Rattle.ante_pack.specs.declared.fault.PackFault.{PackFault}
 use Rattle.ante_state.specs.declared.objects.AccountRow.{AccountRow}
 use Rattle.ante_types.specs.declared.failure.Failure.{Failure}

@@ -1,5 +1,5 @@
 -- unlinkauth(account, code, type): takes a link away.
-use Rattle.std.specs.Prelude.{Bool, not, List, [], ◌∷◌, Option, None, Some, is_some, if◌then◌else◌}
+use Rattle.std.specs.Prelude.{List, [], ◌∷◌, Option, None, Some, is_some, if◌then◌else◌}
 use Rattle.ante_types.specs.declared.failure.Failure.{Failure}
 use Rattle.ante_types.specs.declared.failure.Failure.TheVariants as failure
 use Rattle.ante_types.specs.World.{World}

@@ -1,5 +1,5 @@
 -- updateauth(account, permission, parent, authority): a new permission, or another authority for one that is there.
-use Rattle.std.specs.Prelude.{ℕ, ◌==◌, Bool, true, not, ◌&&◌, ◌||◌, List, [], ◌∷◌, Option, None, Some, if◌then◌else◌}
+use Rattle.std.specs.Prelude.{◌==◌, Bool, true, not, ◌||◌, List, [], ◌∷◌, Option, None, Some, if◌then◌else◌}
 use Rattle.ante_pack.specs.declared.authority.Level.{Level}
 use Rattle.ante_pack.specs.declared.names.Name.{Name}
 use Rattle.ante_state.specs.declared.objects.PermissionRow.{PermissionRow}

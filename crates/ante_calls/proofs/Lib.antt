@@ -1,0 +1,4 @@
+mod Numbered
+mod Iterated
+mod Indexed
+mod Called

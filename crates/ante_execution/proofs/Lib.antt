@@ -1,0 +1,4 @@
+mod Weights
+mod Natives
+mod Causes
+mod Checks
