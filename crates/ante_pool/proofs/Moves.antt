@@ -1,11 +1,10 @@
 -- The steps, as the table asks for them.
-use Rattle.std.proofs.Common.{◌≡◌, ℕ, ◌+◌, ◌-◌, ◌%◌, ◌^◌, ◌<◌, ◌≤◌, false, ◌==◌, nat_eq, cond, List, [], ◌∷◌, slice_index, slice_set, None, Some, subst, sym, ap, refl, ◌∙◌, arith, mod-eq_of_lt}
+use Rattle.std.proofs.Common.{◌≡◌, ℕ, ◌+◌, ◌-◌, ◌%◌, ◌^◌, ◌<◌, ◌≤◌, false, ◌==◌, List, [], ◌∷◌, slice_index, slice_set, None, Some, subst, sym, ap, refl, ◌∙◌, arith, mod-eq_of_lt}
 use mathlib.Core.Option.{some, none, some-injective}
 use lib.ListN.{get_elem?}
 use prog.Atomic.{either}
 use Rattle.atomic_table.specs.Table.{State, Me, Act, keeps, step, Allows, Splits, Joins, Valid, Final, Seen, homes_after, carried_after}
 use Rattle.ante_pool.specs.declared.words.Known.{Known}
-use Rattle.ante_pool.specs.declared.PoolEnd.{PoolEnd}
 use Rattle.ante_pool.specs.Seats.{whole_share, kept_half, new_half, joined, spent, after_claim, after_look, after_ring}
 use Rattle.ante_pool.specs.Standing.{Kept, Standing, Drew, Saw, Rang, claimed, looked, ringing}
 use Rattle.ante_pool.specs.Pools.{IsTruth}

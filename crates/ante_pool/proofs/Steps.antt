@@ -1,5 +1,5 @@
 -- What each step makes of the rule, on plain words and lists.
-use Rattle.std.proofs.Common.{◌≡◌, ℕ, zero, suc, ◌+◌, ◌-◌, ◌/◌, ◌<◌, ◌≤◌, ◌⊎◌, min, Bool, true, false, true≢false, ◌||◌, cond, ◌==◌, nat_lt, nat_eq, List, [], ◌∷◌, ◌++◌, set, All, Option, Some, None, is_some, IfSome, inl, inr, ⊎_elim, subst, sym, ap, refl, ◌∙◌, arith}
+use Rattle.std.proofs.Common.{◌≡◌, ℕ, ◌+◌, ◌-◌, ◌/◌, ◌<◌, ◌≤◌, min, Bool, true, false, true≢false, ◌||◌, cond, ◌==◌, nat_lt, nat_eq, List, [], ◌∷◌, ◌++◌, set, All, Option, Some, None, is_some, IfSome, ⊎_elim, subst, sym, ap, refl, ◌∙◌, arith}
 use mathlib.Core.Option.{some}
 use lib.ListN.{get_elem?}
 use Rattle.std.proofs.Math.Nat.{min-eq_left}
@@ -12,11 +12,10 @@ use Rattle.atomic_table.proofs.Lists.{at_set, at_snoc, set_else}
 use Rattle.ante_pool.specs.declared.words.Known.{Known}
 use Rattle.ante_pool.specs.declared.Looked.TheVariants.{Running, Rung}
 use Rattle.ante_pool.specs.declared.Ringing.TheVariants.{Won, Lost}
-use Rattle.ante_pool.specs.declared.PoolEnd.{PoolEnd}
 use Rattle.ante_pool.specs.Seats.{whole_share, kept_half, new_half, joined, spent, after_claim, after_look, after_ring, times, IsOnce}
 use Rattle.ante_pool.specs.Standing.{total, below, ended_share, wins, rings, Fits, Kept, claimed, looked, ringing}
 use Rattle.ante_pool.specs.Pools.{IsTruth}
-use Rattle.ante_pool.proofs.Totals.{total_set, total_push, total_at, total_two, total_alone, times-append, set_at}
+use Rattle.ante_pool.proofs.Totals.{total_set, total_push, total_at, total_two, total_alone, times_append}
 
 -- One seat makes a step, in which its share stays
 moved : (jobs drawn bell drawn' bell' : ℕ) (views : List Known) (id : ℕ) (v w : Known) → Kept jobs drawn bell views → get_elem? views id ≡ some v → w.share ≡ v.share
@@ -58,17 +57,17 @@ draws_by : (jobs drawn bell : ℕ) (views : List Known) (id : ℕ) (v : Known) �
 draws_by jobs drawn bell views id v kept at part going true is =
     let lt = ltb-true drawn jobs is in let f = later jobs drawn bell v (kept.each id v at) in
     moved jobs drawn bell (drawn + 1) bell views id v (record v { numbers = v.numbers ++ drawn ∷ [] }) kept at refl
-      (λ x. let t = times-append x v.numbers (drawn ∷ []) in let n = next_below x drawn jobs lt in omega arith)
-      (λ t e. omega arith) refl (later jobs drawn bell)
-      (record { spent = (λ none. absurd (omega arith)); same = f.same; ended = f.ended; moments = f.moments; won = f.won })
+    (λ x. let t = times_append x v.numbers (drawn ∷ []) in let n = next_below x drawn jobs lt in omega arith)
+    (λ t e. omega arith) refl (later jobs drawn bell)
+    (record { spent = (λ none. absurd (omega arith)); same = f.same; ended = f.ended; moments = f.moments; won = f.won })
 draws_by jobs drawn bell views id v kept at part going false is =
     let le = ltb-false drawn jobs is in let f = later jobs drawn bell v (kept.each id v at) in
     let a : min drawn jobs ≡ min (drawn + 1) jobs = omega arith in
     let z : ended_share v ≡ 0 = ap (λ (b : Bool). cond b v.share 0) going in
     moved jobs drawn bell (drawn + 1) bell views id v (record v { ended = true }) kept at refl
-      (λ x. ap (λ n. times x v.numbers + below x n) a)
-      (λ t e. let b = kept.bound in omega arith) refl (later jobs drawn bell)
-      (record { spent = (λ none. absurd (omega arith)); same = f.same; ended = (λ e. omega arith); moments = f.moments; won = f.won })
+    (λ x. ap (λ n. times x v.numbers + below x n) a)
+    (λ t e. let b = kept.bound in omega arith) refl (later jobs drawn bell)
+    (record { spent = (λ none. absurd (omega arith)); same = f.same; ended = (λ e. omega arith); moments = f.moments; won = f.won })
 
 pub draws : (jobs drawn bell : ℕ) (views : List Known) (id : ℕ) (v : Known) → Kept jobs drawn bell views → get_elem? views id ≡ some v → 0 < v.share → v.ended ≡ false
     → Kept jobs (drawn + 1) bell (set views id (after_claim v (claimed v.jobs drawn)))
@@ -98,7 +97,7 @@ looks_by jobs drawn bell views id v kept at part true is =
 looks_by jobs drawn bell views id v kept at part false is =
     let f = kept.each id v at in let m : bell ≡ bell - 1 + 1 = grind (arith, nat_tests) in
     moved jobs drawn bell drawn bell views id v (record v { moments = v.moments ++ (bell - 1) ∷ [] }) kept at refl (λ x. refl) (λ t e. let b = kept.bound in omega arith) refl (λ u g. g)
-      (record { spent = (λ none. absurd (omega arith)); same = f.same; ended = f.ended; moments = All-push (λ n. bell ≡ n + 1) v.moments (bell - 1) f.moments m; won = f.won })
+    (record { spent = (λ none. absurd (omega arith)); same = f.same; ended = f.ended; moments = All-push (λ n. bell ≡ n + 1) v.moments (bell - 1) f.moments m; won = f.won })
 
 pub looks : (jobs drawn bell : ℕ) (views : List Known) (id : ℕ) (v : Known) → Kept jobs drawn bell views → get_elem? views id ≡ some v → 0 < v.share
     → Kept jobs drawn bell (set views id (after_look v (looked bell)))
@@ -125,9 +124,9 @@ rings_by : (jobs drawn bell moment : ℕ) (views : List Known) (id : ℕ) (v : K
 rings_by jobs drawn bell moment views id v kept at part true is =
     let none : bell ≡ 0 = grind (arith, nat_tests) in let f = silent jobs drawn bell (moment + 1) none v (kept.each id v at) in
     moved jobs drawn bell drawn (moment + 1) views id v (record v { moments = v.moments ++ moment ∷ []; won = Some moment }) kept at refl (λ x. refl) (λ t e. let b = kept.bound in omega arith)
-      (let a = rung_by bell none in let b = next_rings moment in let t = total_at wins views id v at in let k = kept.winners in omega arith)
-      (silent jobs drawn bell (moment + 1) none)
-      (record { spent = (λ none'. absurd (omega arith)); same = f.same; ended = f.ended; moments = All-push (λ n. moment + 1 ≡ n + 1) v.moments moment f.moments refl; won = refl })
+    (let a = rung_by bell none in let b = next_rings moment in let t = total_at wins views id v at in let k = kept.winners in omega arith)
+    (silent jobs drawn bell (moment + 1) none)
+    (record { spent = (λ none'. absurd (omega arith)); same = f.same; ended = f.ended; moments = All-push (λ n. moment + 1 ≡ n + 1) v.moments moment f.moments refl; won = refl })
 rings_by jobs drawn bell moment views id v kept at part false is = looks_by jobs drawn bell views id v kept at part false is
 
 pub rings_at : (jobs drawn bell moment : ℕ) (views : List Known) (id : ℕ) (v : Known) → Kept jobs drawn bell views → get_elem? views id ≡ some v → 0 < v.share
@@ -145,7 +144,7 @@ pub splits : (jobs drawn bell : ℕ) (views : List Known) (id : ℕ) (v : Known)
 splits jobs drawn bell views id v kept at part =
     let f = kept.each id v at in
     let sum : (g : Known → ℕ) → total g (set views id (kept_half v) ++ new_half v ∷ []) + g v ≡ total g views + g (kept_half v) + g (new_half v) =
-      λ g. let s = total_set g views id v (kept_half v) at in let p = total_push g (set views id (kept_half v)) (new_half v) in omega arith in
+    λ g. let s = total_set g views id v (kept_half v) at in let p = total_push g (set views id (kept_half v)) (new_half v) in omega arith in
     let mine : Fits jobs drawn bell (kept_half v) = record { spent = (λ none. absurd (omega arith)); same = (λ some_part. f.same (omega arith)); ended = f.ended; moments = f.moments; won = f.won } in
     let other : Fits jobs drawn bell (new_half v) = record { spent = (λ none. absurd (omega arith)); same = (λ some_part. f.same (omega arith)); ended = f.ended; moments = f.moments; won = tt } in
     record {
@@ -155,9 +154,9 @@ splits jobs drawn bell views id v kept at part =
       bound = (let t = sum ended_share in let h = halves_ended v.ended v.share (v.share / 2) (omega arith) in let b = kept.bound in omega arith);
       winners = (let t = sum wins in let s = kept.winners in omega arith);
       each = (λ j u e. ⊎_elim
-        (λ old. ⊎_elim (λ t. subst (Fits jobs drawn bell) t.1 mine) (λ t. kept.each j u t.1) (at_set views id j (kept_half v) u old))
-        (λ new. subst (Fits jobs drawn bell) new other)
-        (at_snoc (set views id (kept_half v)) (new_half v) u j e));
+          (λ old. ⊎_elim (λ t. subst (Fits jobs drawn bell) t.1 mine) (λ t. kept.each j u t.1) (at_set views id j (kept_half v) u old))
+          (λ new. subst (Fits jobs drawn bell) new other)
+          (at_snoc (set views id (kept_half v)) (new_half v) u j e));
     }
 
 ended_joined : (b c : Bool) (m n : ℕ) → cond b m 0 + cond c n 0 ≤ cond (b || c) (m + n) 0
@@ -185,7 +184,7 @@ merges jobs drawn bell views id v other w kept at apart at' part =
     let there : get_elem? views other ≡ some w = sym (set_else views id other (joined v w) apart) ∙ at' in
     let f = kept.each id v at in let g = kept.each other w there in
     let sum : (h : Known → ℕ) → total h (set (set views id (joined v w)) other spent) + h v + h w ≡ total h views + h (joined v w) + h spent =
-      λ h. let s = total_set h views id v (joined v w) at in let p = total_set h (set views id (joined v w)) other w spent at' in omega arith in
+    λ h. let s = total_set h views id v (joined v w) at in let p = total_set h (set views id (joined v w)) other w spent at' in omega arith in
     let mine : Fits jobs drawn bell (joined v w) = record {
       spent = (λ none. absurd (omega arith));
       same = (λ some_part. f.same part);
@@ -203,15 +202,15 @@ merges jobs drawn bell views id v other w kept at apart at' part =
     record {
       few = kept.few;
       shares = (let t = sum (λ u. u.share) in let s = kept.shares in omega arith);
-      numbers = (λ x. let t = sum (λ u. times x u.numbers) in let a = times-append x v.numbers w.numbers in let s = kept.numbers x in omega arith);
+      numbers = (λ x. let t = sum (λ u. times x u.numbers) in let a = times_append x v.numbers w.numbers in let s = kept.numbers x in omega arith);
       bound = (let t = sum ended_share in let h = ended_joined v.ended w.ended v.share w.share in let b = kept.bound in omega arith);
       winners = (
-        let two = total_two wins views id other v w at there apart in let b = bell_bit bell in let k = kept.winners in
-        let t = sum wins in let h = won_joined v.won w.won (omega arith) in omega arith);
+          let two = total_two wins views id other v w at there apart in let b = bell_bit bell in let k = kept.winners in
+          let t = sum wins in let h = won_joined v.won w.won (omega arith) in omega arith);
       each = (λ j u e. ⊎_elim
-        (λ t. subst (Fits jobs drawn bell) t.1 empty)
-        (λ t. ⊎_elim (λ s. subst (Fits jobs drawn bell) s.1 mine) (λ s. kept.each j u s.1) (at_set views id j (joined v w) u t.1))
-        (at_set (set views id (joined v w)) other j spent u e));
+          (λ t. subst (Fits jobs drawn bell) t.1 empty)
+          (λ t. ⊎_elim (λ s. subst (Fits jobs drawn bell) s.1 mine) (λ s. kept.each j u s.1) (at_set views id j (joined v w) u t.1))
+          (at_set (set views id (joined v w)) other j spent u e));
     }
   where
     by : (b : Bool) → cond b 0 1 ≤ 1
@@ -235,7 +234,7 @@ truth : (jobs drawn bell : ℕ) (views : List Known) (id : ℕ) (v : Known) → 
     → (rung : Option ℕ) → rung ≡ v.won → All (λ m. rung ≡ Some m) v.moments → IsTruth jobs v (record { drawn = drawn; rung = rung })
 truth jobs drawn bell views id v kept at part rung won moments = record {
   numbers = (λ x. sym (total_alone (λ u. u.share) (λ u. times x u.numbers) views id v at (part ∙ sym kept.shares)
-    (λ j u e none. ap (times x) ((kept.each j u e).spent none).0)) ∙ kept.numbers x);
+      (λ j u e none. ap (times x) ((kept.each j u e).spent none).0)) ∙ kept.numbers x);
   ended = (kept.each id v at).ended;
   rung = won;
   moments = moments;
@@ -251,11 +250,11 @@ pub truth_silent : (jobs drawn bell : ℕ) (views : List Known) (id : ℕ) (v : 
 truth_silent jobs drawn bell views id v kept at part is =
     let f = kept.each id v at in
     truth jobs drawn bell views id v kept at part None (won_none v.won (winner jobs drawn bell views id v kept at part ∙ ap rings is))
-      (All-weaker (λ m. bell ≡ m + 1) (λ m. None ≡ Some m) (λ m e. absurd (omega arith)) v.moments f.moments)
+    (All-weaker (λ m. bell ≡ m + 1) (λ m. None ≡ Some m) (λ m e. absurd (omega arith)) v.moments f.moments)
 
 pub truth_rung : (jobs drawn bell : ℕ) (views : List Known) (id : ℕ) (v : Known) → Kept jobs drawn bell views → get_elem? views id ≡ some v → v.share ≡ whole_share
     → 0 < bell → IsTruth jobs v (record { drawn = drawn; rung = Some (bell - 1) })
 truth_rung jobs drawn bell views id v kept at part is =
     let f = kept.each id v at in let one : rings bell ≡ 1 = grind (arith, nat_tests) in
     truth jobs drawn bell views id v kept at part (Some (bell - 1)) (won_some bell v.won (winner jobs drawn bell views id v kept at part ∙ one) f.won)
-      (All-weaker (λ m. bell ≡ m + 1) (λ m. Some (bell - 1) ≡ Some m) (λ m e. ap Some (omega arith)) v.moments f.moments)
+    (All-weaker (λ m. bell ≡ m + 1) (λ m. Some (bell - 1) ≡ Some m) (λ m e. ap Some (omega arith)) v.moments f.moments)

@@ -43,9 +43,9 @@ total_alone f g (u ∷ us) zero v at e h =
 total_alone f g (u ∷ us) (suc id) v at e h =
     let le = total_at f us id v at in let a = h zero u refl (omega arith) in let t = total_alone f g us id v at (omega arith) (λ j. h (suc j)) in omega arith
 
-pub times-append : (x : ℕ) (xs ys : List ℕ) → times x (xs ++ ys) ≡ times x xs + times x ys
-times-append x [] ys = omega arith
-times-append x (z ∷ zs) ys = let t = times-append x zs ys in omega arith
+pub times_append : (x : ℕ) (xs ys : List ℕ) → times x (xs ++ ys) ≡ times x xs + times x ys
+times_append x [] ys = omega arith
+times_append x (z ∷ zs) ys = let t = times_append x zs ys in omega arith
 
 pub set_at : (views : List Known) (id : ℕ) (v w : Known) → get_elem? views id ≡ some v → get_elem? (set views id w) id ≡ some w
 set_at [] id v w at = absurd (some-ne-none v (sym at))

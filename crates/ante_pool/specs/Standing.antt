@@ -1,5 +1,5 @@
 -- What holds of the pool's two words and of all its seats, between any two steps of any threads.
-use Rattle.std.specs.Prelude.{◌≡◌, ℕ, ◌+◌, ◌-◌, ◌<◌, ◌≤◌, min, Bool, true, nat_lt, ◌==◌, if◌then◌else◌, List, [], ◌∷◌, All, Option, Some, None, is_some, IfSome}
+use Rattle.std.specs.Prelude.{◌≡◌, ℕ, ◌+◌, ◌-◌, ◌<◌, ◌≤◌, min, true, nat_lt, ◌==◌, if◌then◌else◌, List, [], ◌∷◌, All, Option, Some, None, is_some, IfSome}
 use mathlib.Core.Option.{some}
 use lib.ListN.{get_elem?}
 use Rattle.atomic_table.specs.Table.{State, Me, Step}

@@ -5,12 +5,14 @@
 //! seats and its end.
 #![tactic(auto)]
 
-ghost use Rattle.std.specs.Prelude.{◌≡◌, ℕ, ◌<◌, ◌≤◌, ◌^◌, false, All, IfOk, IfSome};
+ghost use Rattle.std.specs.Prelude.{◌≡◌, ℕ, ◌<◌, ◌≤◌, ◌^◌, false, All, IsOk, IfOk, IfSome};
 ghost use Rattle.ante_pool.specs.declared.Looked.TheVariants.{Rung};
 ghost use Rattle.ante_pool.specs.declared.Ringing.TheVariants.{Lost};
 ghost use Rattle.ante_pool.specs.Seats.{whole_share, first_seat, kept_half, new_half, joined, after_claim, after_look, after_ring, IsOnce};
 ghost use Rattle.ante_pool.specs.Pools.{IsSeatOf, IsTruth};
 
+#[cfg(test)]
+mod tests;
 mod words;
 
 use atomic_table::{Seat, Table};
@@ -90,16 +92,17 @@ impl Pool {
     }
 
     /// A seat for another thread, with half the share of this one, rounded down.
-    pub fn split(&self, seat: &mut PoolSeat) -> PoolSeat
+    pub fn split(&self, _alloc: Global, seat: &mut PoolSeat) -> Result<PoolSeat, AllocError>
         requires here { IsSeatOf self.now seat.old }
         requires share { 2 ≤ seat.old.known.share }
-        ensures here { IsSeatOf self.now seat.new × IsSeatOf self.now result }
+        ensures ok { IsOk result }
+        ensures here { IsSeatOf self.now seat.new × IfOk result (λ other. IsSeatOf self.now other) }
         ensures kept { seat.new.known ≡ kept_half seat.old.known }
-        ensures other { result.known ≡ new_half seat.old.known }
+        ensures other { IfOk result (λ other. other.known ≡ new_half seat.old.known) }
     {
-        PoolSeat {
+        Ok(PoolSeat {
             seat: self.table.shared.split_seat::<Halves>(&mut seat.seat),
-        }
+        })
     }
 
     /// Gives all that the other seat has to this one.
@@ -110,9 +113,7 @@ impl Pool {
         ensures known { into.new.known ≡ joined into.old.known other.known }
     {
         let PoolSeat { seat: other } = other;
-        self.table
-            .shared
-            .join_seat::<Merged>(&mut into.seat, other);
+        self.table.shared.join_seat::<Merged>(&mut into.seat, other);
     }
 
     /// A job that nobody claimed before, or `None` where none is left. The seat is then ended.
@@ -124,9 +125,7 @@ impl Pool {
         ensures job { IfSome result (λ n. n < self.now.jobs) }
         ensures once { IsOnce seat.new.known.numbers }
     {
-        let found = self.table
-            .shared
-            .fetch_add::<Draw>(&mut seat.seat, 0, 1);
+        let found = self.table.shared.fetch_add::<Draw>(&mut seat.seat, 0, 1);
         if found < self.jobs as u64 {
             Some(found as u32)
         } else {
@@ -158,7 +157,8 @@ impl Pool {
         ensures known { seat.new.known ≡ after_ring seat.old.known moment result }
         ensures agrees { All (λ m. result ≡ Lost m) seat.old.known.moments }
     {
-        let found = self.table
+        let found = self
+            .table
             .shared
             .compare_exchange::<Strike>(&mut seat.seat, 1, 0, moment + 1);
         if found == 0 {
@@ -180,11 +180,7 @@ impl Pool {
         let drawn = closed.word(0);
         let bell = closed.word(1);
         closed.free();
-        let rung = if bell == 0 {
-            None
-        } else {
-            Some(bell - 1)
-        };
+        let rung = if bell == 0 { None } else { Some(bell - 1) };
         PoolEnd { drawn, rung }
     }
 }

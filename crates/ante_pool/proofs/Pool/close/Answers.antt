@@ -11,4 +11,4 @@ pub returns-else-bell-eq0 : goal.returns-else-bell-eq0
 returns-else-bell-eq0 c =
     let rung = c.if-bell-eq0.false in
     ends_rung _ _ _ _ _ _ _ c.close_with-closed.ensures.values.2 c.word-drawn.ensures c.word-bell.ensures _
-      (c.self.invariant.2 ∙ ap (λ (p : PoolView). p.jobs) c.self.view_is) _ (ap (λ (s : SeatView). s.known) c.seat.view_is) c.requires.share (omega arith)
+    (c.self.invariant.2 ∙ ap (λ (p : PoolView). p.jobs) c.self.view_is) _ (ap (λ (s : SeatView). s.known) c.seat.view_is) c.requires.share (omega arith)
