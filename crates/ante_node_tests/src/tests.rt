@@ -3,8 +3,8 @@ ghost use Rattle.ante_base.specs.Faults.{HasCause};
 ghost use Rattle.ante_base.specs.Source.{CountsWithin, Reads};
 
 use super::rows::ROWS;
-use ante_base::{AtLook, Got, MemSink, MemSource, NeverStop, Sink, Source, Stop};
-use ante_node::{NodeEnd, run_node};
+use ante_base::{AtLook, Exact, Got, MemSink, MemSource, NeverStop, Reading, Sink, Source, Stop};
+use ante_node::{NodeEnd, NodeFault, run_node, run_offline};
 use std::alloc::Global;
 use std::test::Fail;
 
@@ -106,6 +106,46 @@ fn failing_calls_are_named(rt: HostRuntime) -> Result<(), Fail> {
     let mut files = source(alloc, "0", Vec::new(alloc))?;
     let mut out = MemSink::new(alloc, vec![in alloc; 0]?);
     assert_eq!(rt; ask(alloc, &["ask"], &mut files, &mut out)?.status, 3);
+    Ok(())
+}
+
+#[test]
+fn no_block_is_applied_offline(rt: HostRuntime) -> Result<(), Fail> {
+    let alloc = rt.alloc();
+    let mut files = source(alloc, PING, Vec::new(alloc))?;
+    let mut out = MemSink::new(alloc, Vec::new(alloc));
+    let words = vec![in alloc; String::from_str(alloc, "ask")?]?;
+    let end = run_offline(alloc, &words, &mut files, &mut out);
+    assert_eq!(rt; end.fault, NodeFault::Nothing);
+    assert_eq!(rt; end.applied.len(), 0);
+    Ok(())
+}
+
+/// How many bytes the next exact read has, and whether these are all that were wanted.
+fn next<R: Source>(
+    alloc: Global,
+    reading: &mut Reading<'_, R>,
+    count: usize,
+) -> Result<(usize, bool), Fail>
+{
+    if count > 8 || reading.place() > 8 {
+        return Ok((0, false));
+    }
+    match reading.read_exact(alloc, count)? {
+        Exact::Whole(bytes) => Ok((bytes.as_slice().len(), true)),
+        Exact::Ended(found) => Ok((found, false)),
+    }
+}
+
+#[test]
+fn exact_counts_have_their_places(rt: HostRuntime) -> Result<(), Fail> {
+    let alloc = rt.alloc();
+    let mut files = source(alloc, "abcdefg", Vec::new(alloc))?;
+    let mut reading = Reading::new(&mut files);
+    for (count, found, whole, place) in [(4, 4, true, 4), (0, 0, true, 4), (5, 3, false, 7), (1, 0, false, 7)] {
+        assert_eq!(rt; next(alloc, &mut reading, count)?, (found, whole));
+        assert_eq!(rt; reading.place(), place);
+    }
     Ok(())
 }
 
