@@ -8,18 +8,18 @@ use Rattle.ante_types.specs.declared.failure.Failure.{Failure}
 use Rattle.ante_types.specs.declared.failure.Failure.TheVariants as failure
 use Rattle.ante_wmem.specs.Linear.{LinearMemory, written}
 use Rattle.ante_wmem.specs.HostCalls.{Outcome, value, nothing, refused}
-use Rattle.ante_calls.specs.Calls.{arg32, range, shorter, replies, reading, paying}
+use Rattle.ante_calls.specs.Calls.{arg32, long, range, shorter, replies, reading, paying}
 use Rattle.ante_calls.specs.Views.{SysView}
 
 -- ---- the run
 
 -- current_receiver()
 abbrev pub current_receiver : SysView → LinearMemory → (left : ℕ) → Outcome SysView Failure
-current_receiver v m left = replies (value v.run.receiver.0 v m) left
+current_receiver v m left = replies (value (long v.run.receiver.0) v m) left
 
 -- get_sender(): the receiver of the run that named this receiver or sent this action, 0 for a transaction's own action
 abbrev pub get_sender : SysView → LinearMemory → (left : ℕ) → Outcome SysView Failure
-get_sender v m left = replies (value v.run.sender.0 v m) left
+get_sender v m left = replies (value (long v.run.sender.0) v m) left
 
 -- microseconds since 1970 at the start of a slot of half a second, the first of which begins with the year 2000
 abbrev pub time_of : (slot : ℕ) → ℕ
@@ -27,7 +27,7 @@ time_of slot = 946684800000000 + slot * 500000
 
 -- current_time() and publication_time()
 abbrev pub current_time : SysView → LinearMemory → (left : ℕ) → Outcome SysView Failure
-current_time v m left = replies (value (time_of v.run.slot) v m) left
+current_time v m left = replies (value (long (time_of v.run.slot)) v m) left
 
 -- ---- bytes that are copied out
 

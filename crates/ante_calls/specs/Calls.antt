@@ -29,6 +29,10 @@ name_arg args k = record { 0 = arg args k }
 abbrev pub word : ℤ → ℕ
 word z = cast_unsigned w32 z % 2 ^ 32
 
+-- a number as an i64
+abbrev pub long : ℕ → ℕ
+long n = n % 2 ^ 64
+
 -- ---- ranges
 
 -- the bytes of a range, if it lies in the memory; a range of no bytes always does

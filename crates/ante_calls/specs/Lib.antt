@@ -19,3 +19,4 @@ pub mod WideIntegers
 pub mod ChainState
 pub mod System
 pub mod Numbers
+pub mod Answers

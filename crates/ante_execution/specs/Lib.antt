@@ -9,3 +9,4 @@ pub mod Runs
 pub mod Actions
 pub mod Transactions
 pub mod Blocks
+pub mod Answers

@@ -3,6 +3,8 @@
 //! share with the crates above.
 #![tactic(auto)]
 
+mod ends;
 mod kinds;
 
+pub use ends::{ApplyEnd, AuthFault, NativeFault};
 pub use kinds::{NativeAction, Weighed};
