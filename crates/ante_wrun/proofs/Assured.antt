@@ -13,9 +13,9 @@ use Rattle.ante_wtree.specs.Trees.{Tree}
 use Rattle.ante_wvalid.specs.declared.kinds.ModuleRule.TheVariants as rule
 use Rattle.ante_wvalid.specs.declared.kinds.InvalidKind.TheVariants as invalid
 use Rattle.ante_wvalid.specs.Modules.{IsValid, IsFunctionTyped, IsConstant, constant_kind, imported}
-use Rattle.ante_wrun.specs.Instances.{host_place}
-use Rattle.ante_wrun.specs.Assured.{IsFunctionOf, Links, IsLiteral}
-use Rattle.ante_wrun.proofs.Programs.{any_at, sure}
+use Rattle.ante_wmeaning.specs.Instantiation.{host_place}
+use Rattle.ante_wrun.specs.GrantedByValidity.{IsFunctionOf, Links, IsLiteral}
+use Rattle.ante_wmeaning.proofs.Programs.{any_at, sure}
 
 all_at : {A : Type 0} (P : A → Type 0) (xs : List A) → ((n : ℕ) (x : A) → slice_get xs n ≡ Some x → P x) → AllByRecursion P xs
 all_at P [] h = tt

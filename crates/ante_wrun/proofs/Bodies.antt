@@ -8,15 +8,17 @@ use Rattle.ante_wtree.specs.Expressions.{expression_of}
 use Rattle.ante_wrun.specs.declared.data.Data.{Data}
 use Rattle.ante_wrun.specs.declared.blocks.Frame.{Frame}
 use Rattle.ante_wrun.specs.declared.blocks.Frame.TheVariants as frame
-use Rattle.ante_wrun.specs.Meaning.{Outside, Program, State, Outcome, Branch, and_then, turns, keep, only_if, does, call}
+use Rattle.ante_wmeaning.specs.Environment.{Environment}
+use Rattle.ante_wmeaning.specs.Configurations.{Program, State, Outcome, Branch}
+use Rattle.ante_wmeaning.specs.Execution.{and_then, turns, keep, only_if, does, call}
 use Rattle.ante_wrun.specs.Frames.{FrameValues}
-use Rattle.ante_wrun.specs.Machine as machine
-use Rattle.ante_wrun.specs.Machine.{state_of, under}
-use Rattle.ante_wrun.proofs.Falls.{HostFalls, does_lowers, call_lowers, turns_open}
+use Rattle.ante_wrun.specs.ThreadStates as machine
+use Rattle.ante_wrun.specs.ThreadStates.{state_of, under}
+use Rattle.ante_wmeaning.proofs.Falls.{HostFalls, does_lowers, call_lowers, turns_open}
 
-module _ {W R : Type 0} (host : HostMeaning W R) (program : Program) (w : W) (left last : ℕ) (outside : Outside) where
+module _ {W R : Type 0} (host : HostMeaning W R) (program : Program) (w : W) (left last : ℕ) (environment : Environment) where
   abbrev pub here : Data → State W
-  here d = state_of d w left last outside
+  here d = state_of d w left last environment
 
   abbrev pub goes : (free : ℕ) (frames : List Frame) → Bor (List Instr) → Data → Outcome W R
   goes free frames code d = machine.goes host program free frames code.now d.values (here d)

@@ -12,19 +12,23 @@ use Rattle.ante_wtree.specs.declared.instructions.ValueKind.{ValueKind}
 use Rattle.ante_wtree.specs.declared.instructions.Instr.{Instr}
 use Rattle.ante_wtree.specs.declared.modules.FuncType.{FuncType}
 use Rattle.ante_wtree.specs.Expressions.{Expression, expression_of}
-use Rattle.ante_wrun.specs.declared.ends.RunEnd.{RunEnd}
-use Rattle.ante_wrun.specs.declared.ends.RunEnd.TheVariants as end
+use Rattle.ante_wmeaning.specs.declared.ends.RunEnd.{RunEnd}
+use Rattle.ante_wmeaning.specs.declared.ends.RunEnd.TheVariants as end
 use Rattle.ante_wrun.specs.declared.data.Data.{Data}
 use Rattle.ante_wrun.specs.declared.blocks.Frame.{Frame}
 use Rattle.ante_wrun.specs.declared.blocks.Frame.TheVariants as frame
 use Rattle.ante_wrun.specs.declared.control.Function.{Function}
 use Rattle.ante_wrun.specs.declared.control.Next.{Next as After}
 use Rattle.ante_wrun.specs.declared.control.Next.TheVariants as next
-use Rattle.ante_wrun.specs.Effects.{popped}
-use Rattle.ante_wrun.specs.Meaning.{Outside, Program, FunctionInstance, State, Outcome, Ended, and_then, of_function, chosen, of_block, on_stack, result_of, arguments, pay_pages, grow_if, grow, grown_by, does, call}
+use Rattle.ante_wmeaning.specs.PlainInstructions.{popped}
+use Rattle.ante_wmeaning.specs.Environment.{Environment}
+use Rattle.ante_wmeaning.specs.Configurations.{Program, FunctionInstance, State, Outcome, Ended, on_stack}
+use Rattle.ante_wmeaning.specs.ValueTypes.{result_of}
+use Rattle.ante_wmeaning.specs.Execution.{and_then, of_function, chosen, of_block, arguments, pay_pages, grow_if, grow, grown_by, does, call}
 use Rattle.ante_wrun.specs.Frames.{FrameValues, InCall, unwind}
-use Rattle.ante_wrun.specs.Machine.{opens, under}
-use Rattle.ante_wrun.specs.Control.{instance_of, own_at, Takes, Stops, NotHostCall, GivenAt}
+use Rattle.ante_wrun.specs.ThreadStates.{opens, under}
+use Rattle.ante_wmeaning.specs.RunEnds.{Stops}
+use Rattle.ante_wrun.specs.Control.{instance_of, own_at, Takes, NotHostCall, GivenAt}
 use Rattle.ante_wrun.proofs.Bodies.{here, goes}
 
 pub not_lt : (m n : ℕ) → n ≤ m → nat_lt m n ≡ false
@@ -65,7 +69,7 @@ module _ {W R : Type 0} (host : HostMeaning W R) (program : Program) where
   ended free below (frame.Call kind base locals above rest ∷ frames) e s = ended above (take base below) frames e s
 
   pub stops : (free : ℕ) (below : List ℕ) (frames : List Frame) (go : State W → Outcome W R) (o : Outcome W R) (e : RunEnd R) (s : State W) →
-      o ≡ Ended e s → Stops e s.world s.left s.outside (under host program free below frames (and_then o go))
+      o ≡ Ended e s → Stops e s.world s.left s.environment (under host program free below frames (and_then o go))
   stops free below frames go o e s h = (s, ap (λ x. under host program free below frames (and_then x go)) h ∙ ended free below frames e s, refl, refl, refl)
 
   pub call_is : (free f : ℕ) (s : State W) → call host program free f s ≡ of_function host (own_at host program free) (slice_get program.functions f) s
@@ -75,7 +79,7 @@ module _ {W R : Type 0} (host : HostMeaning W R) (program : Program) where
   pub calls : (free f : ℕ) (s : State W) (o : Option FunctionInstance) → slice_get program.functions f ≡ o → call host program free f s ≡ of_function host (own_at host program free) o s
   calls free f s o e = call_is free f s ∙ ap (λ x. of_function host (own_at host program free) x s) e
 
-module _ {W R : Type 0} (host : HostMeaning W R) (program : Program) (w : W) (left last : ℕ) (outside : Outside) where
+module _ {W R : Type 0} (host : HostMeaning W R) (program : Program) (w : W) (left last : ℕ) (environment : Environment) where
   caller : (below locals operands : List ℕ) (frames : List Frame) (kind : Option ValueKind) (free : ℕ) (rest : Expression) (m : ℕ) (o : Outcome W R) →
       let all = below ++ (locals ++ operands) in
       unwind host program m (InCall kind locals (reverse operands) free rest ∷ opens below frames) o
@@ -94,20 +98,20 @@ module _ {W R : Type 0} (host : HostMeaning W R) (program : Program) (w : W) (le
       free ≡ suc m →
       fs ≡ frame.Call (result_of kind.results) (length d.values.below) (length d.values.locals) free rest ∷ frames →
       v ≡ record { below = d.values.below ++ (d.values.locals ++ reverse (drop (length kind.params) d.values.stack)); locals = arguments (length kind.params) d.values.stack ++ replicate zeros 0; stack = [] } →
-      under host program free d.values.below frames (and_then (own_at host program free kind zeros (expression_of body.now) (here host program w left last outside d)) (does program (call host program free) (expression_of rest.now)))
-      ≡ goes host program w left last outside m fs body (record d { values = v })
+      under host program free d.values.below frames (and_then (own_at host program free kind zeros (expression_of body.now) (here host program w left last environment d)) (does program (call host program free) (expression_of rest.now)))
+      ≡ goes host program w left last environment m fs body (record d { values = v })
   enters free m frames fs d rest body kind zeros v e f g =
-      let s = here host program w left last outside d in
+      let s = here host program w left last environment d in
       let go = does program (call host program free) (expression_of rest.now) in
       let operands = reverse (drop (length kind.params) d.values.stack) in
       let v' : FrameValues = record { below = d.values.below ++ (d.values.locals ++ operands); locals = arguments (length kind.params) d.values.stack ++ replicate zeros 0; stack = [] } in
       let d' : Data = record d { values = v' } in
-      let o = does program (call host program m) (expression_of body.now) (here host program w left last outside d') in
+      let o = does program (call host program m) (expression_of body.now) (here host program w left last environment d') in
       ap (λ k. under host program free d.values.below frames (and_then (own_at host program k kind zeros (expression_of body.now) s) go)) e
       ∙ ap (λ x. unwind host program m (InCall (result_of kind.results) d.values.locals x free (expression_of rest.now) ∷ opens d.values.below frames) o) (sym (reverse-reverse (drop (length kind.params) d.values.stack)))
       ∙ caller d.values.below d.values.locals operands frames (result_of kind.results) free (expression_of rest.now) m o
-      ∙ ap (λ x. goes host program w left last outside m x body d') (sym f)
-      ∙ ap (λ x. goes host program w left last outside m fs body (record d { values = x })) (sym g)
+      ∙ ap (λ x. goes host program w left last environment m x body d') (sym f)
+      ∙ ap (λ x. goes host program w left last environment m fs body (record d { values = x })) (sym g)
 
 module _ {W : Type 0} (R : Type 0) where
   pub dear : (pages : ℕ) (s : State W) → may_grow s.values.memory pages ≡ true → s.left < pages → grow {R = R} pages s ≡ Ended end.StepLimit (record s { left = 0 })
@@ -117,7 +121,7 @@ module _ {W : Type 0} (R : Type 0) where
 
 -- ---- conditions
 
-module _ {W R : Type 0} (host : HostMeaning W R) (program : Program) (w : W) (left last : ℕ) (outside : Outside) where
+module _ {W R : Type 0} (host : HostMeaning W R) (program : Program) (w : W) (left last : ℕ) (environment : Environment) where
   chooses : (free : ℕ) (b : Bool) (one two : Bor (List Instr)) (s : State W) →
       chosen {R = R} b (does program (call host program free) (expression_of one.now)) (does program (call host program free) (expression_of two.now)) s
       ≡ does program (call host program free) (expression_of (if b then two else one).now) s
@@ -127,15 +131,15 @@ module _ {W R : Type 0} (host : HostMeaning W R) (program : Program) (w : W) (le
   pub conditional : (free : ℕ) (frames fs : List Frame) (d : Data) (kind : Option ValueKind) (height : ℕ) (rest one two code : Bor (List Instr)) (b b' : Bool) (v : FrameValues) →
       b ≡ b' → code ≡ (if b' then two else one) → v ≡ record { below = d.values.below; locals = d.values.locals; stack = popped d.values.stack } → height ≡ length v.stack → fs ≡ frame.Block kind height rest ∷ frames →
       under host program free d.values.below frames
-      (and_then (of_block kind (length (popped d.values.stack)) (chosen b (does program (call host program free) (expression_of one.now)) (does program (call host program free) (expression_of two.now)) (on_stack (here host program w left last outside d) (popped d.values.stack))))
+      (and_then (of_block kind (length (popped d.values.stack)) (chosen b (does program (call host program free) (expression_of one.now)) (does program (call host program free) (expression_of two.now)) (on_stack (here host program w left last environment d) (popped d.values.stack))))
       (does program (call host program free) (expression_of rest.now)))
-      ≡ goes host program w left last outside free fs code (record d { values = v })
+      ≡ goes host program w left last environment free fs code (record d { values = v })
   conditional free frames fs d kind height rest one two code b b' v e g h n f =
-      let s = on_stack (here host program w left last outside d) (popped d.values.stack) in
+      let s = on_stack (here host program w left last environment d) (popped d.values.stack) in
       let go = does program (call host program free) (expression_of rest.now) in
       let runs = does program (call host program free) in
       ap (λ o. under host program free d.values.below frames (and_then (of_block kind (length (popped d.values.stack)) o) go))
       (chooses free b one two s ∙ ap (λ x. runs (expression_of x.now) s) (ap (λ x. if x then two else one) e ∙ sym g))
-      ∙ ap (λ x. under host program free x.below (frame.Block kind (length x.stack) rest ∷ frames) (does program (call host program free) (expression_of code.now) (here host program w left last outside (record d { values = x })))) (sym h)
-      ∙ ap (λ k. goes host program w left last outside free (frame.Block kind k rest ∷ frames) code (record d { values = v })) (sym n)
-      ∙ ap (λ x. goes host program w left last outside free x code (record d { values = v })) (sym f)
+      ∙ ap (λ x. under host program free x.below (frame.Block kind (length x.stack) rest ∷ frames) (does program (call host program free) (expression_of code.now) (here host program w left last environment (record d { values = x })))) (sym h)
+      ∙ ap (λ k. goes host program w left last environment free (frame.Block kind k rest ∷ frames) code (record d { values = v })) (sym n)
+      ∙ ap (λ x. goes host program w left last environment free x code (record d { values = v })) (sym f)

@@ -10,13 +10,16 @@ use Rattle.ante_wtree.specs.Expressions.{Expression, Br, BrIf, BrTable, expressi
 use Rattle.ante_wrun.specs.declared.data.Data.{Data}
 use Rattle.ante_wrun.specs.declared.blocks.Frame.{Frame}
 use Rattle.ante_wrun.specs.declared.blocks.Frame.TheVariants as frame
-use Rattle.ante_wrun.specs.Meaning.{Outside, Program, State, Outcome, Normal, Branch, Returned, arity, keep, unwound, only_if, and_then, jump_unless, taking, on_stack, acts, does, call}
-use Rattle.ante_wrun.specs.Effects.{low, top, popped}
+use Rattle.ante_wmeaning.specs.Environment.{Environment}
+use Rattle.ante_wmeaning.specs.Configurations.{Program, State, Outcome, Normal, Branch, Returned, on_stack}
+use Rattle.ante_wmeaning.specs.ValueTypes.{arity}
+use Rattle.ante_wmeaning.specs.Execution.{keep, unwound, only_if, and_then, jump_unless, taking, acts, does, call}
+use Rattle.ante_wmeaning.specs.PlainInstructions.{low, top, popped}
 use Rattle.ante_wrun.specs.Frames.{FrameValues}
-use Rattle.ante_wrun.specs.Machine.{state_of, under, goes, Reaches, Returns, Nested}
-use Rattle.ante_wrun.specs.Runs.{NotStuck}
+use Rattle.ante_wrun.specs.ThreadStates.{state_of, under, goes, Reaches, Returns, Nested}
+use Rattle.ante_wmeaning.specs.RunEnds.{NotStuck}
 use Rattle.ante_wrun.specs.Stretches.{IsOwnLabel}
-use Rattle.ante_wrun.proofs.Falls.{HostFalls}
+use Rattle.ante_wmeaning.proofs.Falls.{HostFalls}
 use Rattle.ante_wrun.proofs.Bodies.{land_Loop}
 use Rattle.ante_wrun.proofs.Rules.{has_one, inner, reaches, BrIf_is, BrTable_is}
 
@@ -98,7 +101,7 @@ module _ {W R : Type 0} (host : HostMeaning W R) (program : Program) where
   passes (suc n) free below (frame.Loop height body rest ∷ frames) count s r = passes n free below frames count s r
   passes (suc n) free below (frame.Call kind base locals above rest ∷ frames) count s r = absurd r
 
-  module _ (w : W) (free left last : ℕ) (o : Outside) (d : Data) (depth : ℕ) (frames new : List Frame) (v v' : FrameValues) (reaches : Reaches frames depth (length v.stack)) where
+  module _ (w : W) (free left last : ℕ) (o : Environment) (d : Data) (depth : ℕ) (frames new : List Frame) (v v' : FrameValues) (reaches : Reaches frames depth (length v.stack)) where
     abbrev here : State W
     here = state_of (record d { values = v }) w left last o
 
@@ -130,7 +133,7 @@ module _ {W R : Type 0} (host : HostMeaning W R) (program : Program) where
 
   -- ---- a branch that is the next instruction
 
-  module _ (w : W) (free left last : ℕ) (o : Outside) (d : Data) (frames : List Frame) (v : FrameValues) (x : Expression) (rest : Expression) where
+  module _ (w : W) (free left last : ℕ) (o : Environment) (d : Data) (frames : List Frame) (v : FrameValues) (x : Expression) (rest : Expression) where
     abbrev state : State W
     state = state_of (record d { values = v }) w left last o
 

@@ -1,4 +1,3 @@
-pub mod Falls
 pub mod Regions
 pub mod Signs
 pub mod Bodies
@@ -7,15 +6,8 @@ pub mod Turning
 pub mod Rules
 pub mod Plains
 pub mod Masks
-pub mod Counts
-pub mod Soundness
-pub mod Starts
 pub mod Making
-pub mod Reached
 pub mod Whole
-pub mod Programs
 pub mod Assured
-pub mod Safe
-pub mod GivenTypes
 pub mod Landing
 pub mod Stretching

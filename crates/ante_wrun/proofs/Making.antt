@@ -7,7 +7,7 @@ use Rattle.std.proofs.lemmas.Slice.Eq.{bytes_eq-Decides}
 use Rattle.std.proofs.lemmas.List.Sums.{fails_before_first, passes_at_first}
 use Rattle.std.proofs.lemmas.Option.{slice_get-get_or, slice_get_within, get_or_from_slice_get}
 use Rattle.ante_wtree.specs.Intrinsics.{names, name_at}
-use Rattle.ante_wrun.specs.Instances.{host_place, placed}
+use Rattle.ante_wmeaning.specs.Instantiation.{host_place, placed}
 
 -- ---- a name's number
 

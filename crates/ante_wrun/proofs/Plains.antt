@@ -7,11 +7,11 @@ use Rattle.ante_wtree.specs.declared.instructions.Instr.{Instr}
 use Rattle.ante_wtree.specs.declared.instructions.Instr.TheVariants as instr
 use Rattle.ante_wtree.specs.declared.instructions.PlainInstr.{PlainInstr}
 use Rattle.ante_wtree.specs.Expressions.{Expression, Plain, put}
-use Rattle.ante_wrun.specs.declared.ends.TrapKind.{TrapKind}
+use Rattle.ante_wmeaning.specs.declared.ends.TrapKind.{TrapKind}
 use Rattle.ante_wrun.specs.declared.plain.Tried.TheVariants as tried
-use Rattle.ante_wrun.specs.Effects.{Values, Next, Traps, NoRule, effect, operands, done}
+use Rattle.ante_wmeaning.specs.PlainInstructions.{Values, Next, Traps, NoRule, effect, operands, done}
 use Rattle.ante_wrun.specs.Frames.{FrameValues}
-use Rattle.ante_wrun.specs.Machine.{values_in, TriesPlain, Ready, plain_of}
+use Rattle.ante_wrun.specs.ThreadStates.{values_in, TriesPlain, Ready, plain_of}
 
 some_is : {A : Type 0} (x y : A) → Some x ≡ Some y → x ≡ y
 some_is x y h = cc

@@ -3,8 +3,8 @@ use Rattle.std.proofs.Common.{◌≡◌, ℕ, suc, ◌+◌, ◌-◌, ◌<◌, �
 use Rattle.std.proofs.lemmas.List.{take-append-drop, drop-take, reverse-reverse, reverse-append, length-reverse, drop-drop, length-take-le, set_split, length-set, append-nil, set-append_left, set-append_right, take_more_set}
 use Rattle.std.proofs.Math.Seq.{take-append_seam, drop-append_seam, take-append-add, drop-append-add, drop-length}
 use Rattle.ante_wtree.specs.declared.instructions.ValueKind.{ValueKind}
-use Rattle.ante_wrun.specs.Effects.{top, popped}
-use Rattle.ante_wrun.specs.Meaning.{keep, unwound, arguments}
+use Rattle.ante_wmeaning.specs.PlainInstructions.{top, popped}
+use Rattle.ante_wmeaning.specs.Execution.{keep, unwound, arguments}
 use Rattle.ante_wrun.specs.Frames.{FrameValues}
 
 -- ---- lists from their other end

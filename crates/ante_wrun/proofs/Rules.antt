@@ -8,16 +8,18 @@ use Rattle.ante_wtree.specs.declared.instructions.ValueKind.{ValueKind}
 use Rattle.ante_wtree.specs.declared.instructions.PlainInstr.{PlainInstr}
 use Rattle.ante_wtree.specs.declared.modules.FuncType.{FuncType}
 use Rattle.ante_wtree.specs.Expressions.{Expression, If, BrIf, BrTable, CallIndirect, MemoryGrow}
-use Rattle.ante_wrun.specs.declared.ends.TrapKind.{TrapKind}
+use Rattle.ante_wmeaning.specs.declared.ends.TrapKind.{TrapKind}
 use Rattle.ante_wrun.specs.declared.blocks.Frame.{Frame}
 use Rattle.ante_wrun.specs.declared.blocks.Frame.TheVariants as frame
 use Rattle.ante_wrun.specs.declared.thread.Thread.{Thread}
-use Rattle.ante_wrun.specs.Effects.{Values, Effect, NoRule, effect, operands, finds, done, low, top, popped}
-use Rattle.ante_wrun.specs.Meaning.{Program, FunctionInstance, Own, Given, Missing, State, Outcome, Normal, Branch, Returned, Ended, Lacks, InHost, Stuck, arity, only_if, and_then, of_effect, of_block, chosen, jump_unless, grow, element, acts, does, taking, on_stack, stack_of, target, of_function, of_reply, call}
-use Rattle.ante_wrun.specs.Machine.{under, whole, Reaches, Returns, Gives}
+use Rattle.ante_wmeaning.specs.PlainInstructions.{Values, Effect, NoRule, effect, operands, finds, done, low, top, popped}
+use Rattle.ante_wmeaning.specs.Configurations.{Program, FunctionInstance, Own, Given, Missing, State, Outcome, Normal, Branch, Returned, Ended, Lacks, InHost, Stuck, on_stack, stack_of}
+use Rattle.ante_wmeaning.specs.ValueTypes.{arity}
+use Rattle.ante_wmeaning.specs.Execution.{only_if, and_then, of_effect, of_block, chosen, jump_unless, grow, element, acts, does, taking, target, of_function, of_reply, call}
+use Rattle.ante_wrun.specs.ThreadStates.{under, whole, Reaches, Returns, Gives}
 use Rattle.ante_wrun.specs.Control.{Takes, Leaves}
-use Rattle.ante_wrun.specs.Runs.{NotStuck}
-use Rattle.ante_wrun.specs.Turns.{Replies}
+use Rattle.ante_wmeaning.specs.RunEnds.{NotStuck}
+use Rattle.ante_wmeaning.specs.HostConditions.{Replies}
 
 le_of : (m n : ℕ) → nat_le m n ≡ true → m ≤ n
 le_of m n e = leb-true m n e

@@ -3,18 +3,22 @@ use Rattle.std.specs.Prelude.{◌≡◌, ℕ, zero, suc, ◌<◌, ◌≤◌, map
 use Rattle.ante_wmem.specs.HostCalls.{HostMeaning}
 use Rattle.ante_wtree.specs.declared.modules.FuncType.{FuncType}
 use Rattle.ante_wtree.specs.Expressions.{Expression, expression_of}
-use Rattle.ante_wrun.specs.declared.ends.RunEnd.{RunEnd}
-use Rattle.ante_wrun.specs.declared.ends.RunEnd.TheVariants as end
-use Rattle.ante_wrun.specs.declared.ends.TrapKind.{TrapKind}
+use Rattle.ante_wmeaning.specs.declared.ends.RunEnd.{RunEnd}
+use Rattle.ante_wmeaning.specs.declared.ends.RunEnd.TheVariants as end
+use Rattle.ante_wmeaning.specs.declared.ends.TrapKind.{TrapKind}
 use Rattle.ante_wrun.specs.declared.thread.Thread.{Thread}
 use Rattle.ante_wrun.specs.declared.control.Function.{Function}
 use Rattle.ante_wrun.specs.declared.control.Function.TheVariants as function
 use Rattle.ante_wrun.specs.declared.control.Functions.{Functions}
 use Rattle.ante_wrun.specs.declared.control.Next.{Next}
 use Rattle.ante_wrun.specs.declared.control.Next.TheVariants as next
-use Rattle.ante_wrun.specs.Effects.{popped}
-use Rattle.ante_wrun.specs.Meaning.{Outside, FunctionInstance, Own, Given, Missing, Program, State, Outcome, Ended, on_stack, call_host, no_frame, call_own, does, call}
-use Rattle.ante_wrun.specs.Machine.{state_of, going, after}
+use Rattle.ante_wmeaning.specs.PlainInstructions.{popped}
+use Rattle.ante_wmeaning.specs.Environment.{Environment}
+use Rattle.ante_wmeaning.specs.Configurations.{FunctionInstance, Own, Given, Missing, Program, State, Outcome, Ended, on_stack}
+use Rattle.ante_wmeaning.specs.Execution.{call_host, no_frame, call_own, does, call}
+use Rattle.ante_wmeaning.specs.RunEnds.{Stops}
+use Rattle.ante_wmeaning.specs.HostConditions.{IsGiven}
+use Rattle.ante_wrun.specs.ThreadStates.{state_of, going, after}
 
 abbrev pub instance_of : Function → FunctionInstance
 instance_of (function.Own kind locals body) = Own kind.now locals (expression_of body.now)
@@ -22,10 +26,6 @@ instance_of (function.Host kind number) = Given kind.now number
 
 abbrev pub program_of : Functions → Program
 program_of f = record { types = f.types.now; functions = map instance_of f.all.items; table = f.table.items }
-
--- the function of this number is one of the host's
-abbrev pub IsGiven : Program → FuncType → ℕ → Type 0
-IsGiven program kind number = (f : ℕ) × (slice_get program.functions f ≡ Some (Given kind number))
 
 -- ---- what a thread has, so that a rule applies
 
@@ -57,22 +57,18 @@ GivenAt program at next.StepLimit = Unit {0}
 GivenAt program at next.CallDepth = Unit {0}
 GivenAt program at (next.HostCall kind number) = slice_get program.functions at ≡ Some (Given kind.now number)
 
--- the run has ended so
-abbrev pub Stops : {W R : Type 0} → RunEnd R → W → ℕ → Outside → Outcome W R → Type 0
-Stops {W} {R} e w left outside o = (s : State W) × (o ≡ Ended e s) × (s.world ≡ w) × (s.left ≡ left) × (s.outside ≡ outside)
-
 module _ {W R : Type 0} (host : HostMeaning W R) (program : Program) where
   -- a call of one of the module's functions where so many frames are free
   abbrev pub own_at : ℕ → FuncType → ℕ → Expression → State W → Outcome W R
   own_at zero = no_frame
   own_at (suc free) = call_own (does program (call host program free))
 
-  abbrev pub Leads : Outcome W R → Next → Thread → W → (left last : ℕ) → Outside → Type 0
-  Leads o next.Go t w left last outside = o ≡ going host program t (state_of t.state w left last outside)
-  Leads o (next.Trap kind) t w left last outside = Stops (end.Trap kind) w left outside o
-  Leads o next.StepLimit t w left last outside = Stops end.StepLimit w 0 outside o × (left ≡ 0)
-  Leads o next.CallDepth t w left last outside = Stops end.CallDepth w left outside o
-  Leads o (next.HostCall kind number) t w left last outside =
-      let s = state_of t.state w left last outside in
+  abbrev pub Leads : Outcome W R → Next → Thread → W → (left last : ℕ) → Environment → Type 0
+  Leads o next.Go t w left last environment = o ≡ going host program t (state_of t.state w left last environment)
+  Leads o (next.Trap kind) t w left last environment = Stops (end.Trap kind) w left environment o
+  Leads o next.StepLimit t w left last environment = Stops end.StepLimit w 0 environment o × (left ≡ 0)
+  Leads o next.CallDepth t w left last environment = Stops end.CallDepth w left environment o
+  Leads o (next.HostCall kind number) t w left last environment =
+      let s = state_of t.state w left last environment in
       (o ≡ after host program t (call_host host kind.now number (on_stack s (popped s.values.stack)))) × (length kind.now.params < length t.state.values.stack)
       × IsGiven program kind.now number

@@ -3,7 +3,8 @@ use Rattle.std.specs.Prelude.{ℕ, suc, List, [], ◌∷◌, Option}
 use Rattle.ante_wmem.specs.HostCalls.{HostMeaning}
 use Rattle.ante_wtree.specs.declared.instructions.ValueKind.{ValueKind}
 use Rattle.ante_wtree.specs.Expressions.{Expression}
-use Rattle.ante_wrun.specs.Meaning.{Program, Outcome, and_then, of_block, of_loop, of_call, settled, turns, does, call}
+use Rattle.ante_wmeaning.specs.Configurations.{Program, Outcome}
+use Rattle.ante_wmeaning.specs.Execution.{and_then, of_block, of_loop, of_call, settled, turns, does, call}
 
 -- The values of all frames: the locals and operands of the frames below as they lie, then this frame's.
 pub record FrameValues : Type 0 where

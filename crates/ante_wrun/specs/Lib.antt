@@ -1,14 +1,9 @@
-pub mod Effects
-pub mod Meaning
+-- What a run means is in `ante_wmeaning`. Here is what the machine does, and how that is the meaning: read Frames first,
+-- then ThreadStates.
 pub mod Frames
-pub mod Machine
+pub mod ThreadStates
 pub mod Control
-pub mod Runs
-pub mod Turns
+pub mod InstructionCycle
 pub mod Stretches
-pub mod Soundness
-pub mod Instances
-pub mod Assured
-pub mod Running
-pub mod Given
-pub mod Parts
+pub mod GrantedByValidity
+pub mod InstanceAndCalls

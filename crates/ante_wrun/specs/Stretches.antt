@@ -6,26 +6,29 @@ use Rattle.ante_wmem.specs.HostCalls.{HostMeaning}
 use Rattle.ante_wtree.specs.declared.instructions.Instr.{Instr}
 use Rattle.ante_wtree.specs.Expressions.{Expression}
 use Rattle.ante_wrun.specs.declared.data.Data.{Data}
-use Rattle.ante_wrun.specs.declared.ends.TrapKind.{TrapKind}
-use Rattle.ante_wrun.specs.declared.ends.RunEnd.TheVariants as end
+use Rattle.ante_wmeaning.specs.declared.ends.TrapKind.{TrapKind}
+use Rattle.ante_wmeaning.specs.declared.ends.RunEnd.TheVariants as end
 use Rattle.ante_wrun.specs.declared.blocks.Frame.{Frame}
 use Rattle.ante_wrun.specs.declared.blocks.Frame.TheVariants as frame
 use Rattle.ante_wrun.specs.declared.thread.Thread.{Thread}
 use Rattle.ante_wrun.specs.declared.stretch.Moved.{Moved}
 use Rattle.ante_wrun.specs.declared.stretch.Moved.TheVariants as moved
-use Rattle.ante_wrun.specs.Meaning.{Outside, Program, State, Outcome, acts, call}
+use Rattle.ante_wmeaning.specs.Environment.{Environment}
+use Rattle.ante_wmeaning.specs.Configurations.{Program, State, Outcome}
+use Rattle.ante_wmeaning.specs.Execution.{acts, call}
 use Rattle.ante_wrun.specs.Frames.{FrameValues}
-use Rattle.ante_wrun.specs.Machine.{values_in, state_of, under, goes, going}
-use Rattle.ante_wrun.specs.Control.{Stops}
-use Rattle.ante_wrun.specs.Runs.{Event, Supplied, NotStuck}
+use Rattle.ante_wrun.specs.ThreadStates.{values_in, state_of, under, goes, going}
+use Rattle.ante_wmeaning.specs.RunEnds.{Stops}
+use Rattle.ante_wmeaning.specs.Environment.{Event, Supplied}
+use Rattle.ante_wmeaning.specs.RunEnds.{NotStuck}
 
 -- the state of these parts, where the instruction executed last took one step
-abbrev pub stepping : {W : Type 0} → FrameValues → (globals : List ℕ) → LinearMemory → W → (left : ℕ) → Outside → State W
-stepping v globals memory w left outside = record { values = values_in v globals memory; world = w; left = left; last = suc left; outside = outside }
+abbrev pub stepping : {W : Type 0} → FrameValues → (globals : List ℕ) → LinearMemory → W → (left : ℕ) → Environment → State W
+stepping v globals memory w left environment = record { values = values_in v globals memory; world = w; left = left; last = suc left; environment = environment }
 
--- some number of instructions had the memory that they wanted, and nothing else was asked of the outside
-abbrev pub Quietly : (List Event → Type 0) → Type 0
-Quietly holds = (n : ℕ) × holds (replicate n Supplied)
+-- some number of instructions had the memory that they wanted, and nothing else was asked of the environment
+abbrev pub WithoutLooks : (List Event → Type 0) → Type 0
+WithoutLooks holds = (n : ℕ) × holds (replicate n Supplied)
 
 -- the code and the open bodies may be exchanged: the whole has the same outcome
 abbrev pub SameFrom : {W R : Type 0} → HostMeaning W R → List Frame → List Instr → List Frame → List Instr → Type 0
@@ -56,29 +59,29 @@ module _ {W R : Type 0} (host : HostMeaning W R) (program : Program) (free : ℕ
   -- one instruction, or none
   abbrev pub MoveLeads : Outcome W R → Moved → FrameValues → State W → Type 0
   MoveLeads o (moved.To code) v s = o ≡ goes host program free frames code.now v s
-  MoveLeads o (moved.Trap kind) v s = Stops (end.Trap kind) s.world s.left s.outside o
+  MoveLeads o (moved.Trap kind) v s = Stops (end.Trap kind) s.world s.left s.environment o
   MoveLeads o moved.Stays v s = Unit {0}
 
   -- a whole stretch
   abbrev pub CodeLeads : Outcome W R → Option TrapKind → List Instr → FrameValues → State W → Type 0
   CodeLeads o None code v s = o ≡ goes host program free frames code v s
-  CodeLeads o (Some kind) code v s = Stops (end.Trap kind) s.world s.left s.outside o
+  CodeLeads o (Some kind) code v s = Stops (end.Trap kind) s.world s.left s.environment o
 
 module _ {W R : Type 0} (host : HostMeaning W R) (program : Program) where
   -- the same, from the outcome of the whole before it
-  abbrev pub StretchLeads : Outcome W R → Option TrapKind → Thread → W → (left last : ℕ) → Outside → Type 0
-  StretchLeads o None t w left last outside = o ≡ going host program t (state_of t.state w left last outside)
-  StretchLeads o (Some kind) t w left last outside = Stops (end.Trap kind) w left outside o
+  abbrev pub StretchLeads : Outcome W R → Option TrapKind → Thread → W → (left last : ℕ) → Environment → Type 0
+  StretchLeads o None t w left last environment = o ≡ going host program t (state_of t.state w left last environment)
+  StretchLeads o (Some kind) t w left last environment = Stops (end.Trap kind) w left environment o
 
 -- ---- an instruction that stays within its function
 
 -- a rule applies to what the code begins with: some run that goes on from here isn't stuck
 abbrev pub HasRule : {W R : Type 0} → HostMeaning W R → Expression → FrameValues → List Frame → Type 0
-HasRule {W} host code v frames = (program : Program) × (w : W) × (free : ℕ) × (left : ℕ) × (last : ℕ) × (outside : Outside) × (d : Data) ×
-    NotStuck (under host program free v.below frames (acts program (call host program free) code (state_of (record d { values = v }) w left last outside)))
+HasRule {W} host code v frames = (program : Program) × (w : W) × (free : ℕ) × (left : ℕ) × (last : ℕ) × (environment : Environment) × (d : Data) ×
+    NotStuck (under host program free v.below frames (acts program (call host program free) code (state_of (record d { values = v }) w left last environment)))
 
 -- it leads from these values and open bodies to those, and to the code that is next; or it isn't done
 abbrev pub Within : {W R : Type 0} → HostMeaning W R → Expression → FrameValues → List Frame → Option (Bor (List Instr)) → FrameValues → List Frame → Type 0
-Within {W} host code v frames next v' frames' = (program : Program) (w : W) (free left last : ℕ) (outside : Outside) (d : Data) →
-    BranchLeads host program free frames' (under host program free v.below frames (acts program (call host program free) code (state_of (record d { values = v }) w left last outside)))
-    next v' (state_of (record d { values = v' }) w left last outside)
+Within {W} host code v frames next v' frames' = (program : Program) (w : W) (free left last : ℕ) (environment : Environment) (d : Data) →
+    BranchLeads host program free frames' (under host program free v.below frames (acts program (call host program free) code (state_of (record d { values = v }) w left last environment)))
+    next v' (state_of (record d { values = v' }) w left last environment)

@@ -1,8 +1,9 @@
 //! Control instructions that stay within their function (section 4.4.5), on its values and open bodies.
 ghost use Rattle.std.specs.Prelude.{◌≡◌, ℕ, ◌==◌, if◌then◌else◌, None, Some, length, drop, slice_get, slice_index_or, MatchOption};
 ghost use Rattle.ante_wtree.specs.Expressions.{put, put_shape, expression_of};
-ghost use Rattle.ante_wrun.specs.Meaning.{Outside, Program, Branch};
-ghost use Rattle.ante_wrun.specs.Machine.{state_of, under, goes, Reaches, Nested};
+ghost use Rattle.ante_wmeaning.specs.Environment.{Environment};
+ghost use Rattle.ante_wmeaning.specs.Configurations.{Program, Branch};
+ghost use Rattle.ante_wrun.specs.ThreadStates.{state_of, under, goes, Reaches, Nested};
 ghost use Rattle.ante_wrun.specs.Stretches.{SameFrom, IsInner, IsOwnLabel, HasRule, Within};
 
 use crate::data::{Data, low};
@@ -100,9 +101,9 @@ pub(crate) fn land<'a, H: Host>(
     requires label { slice_get frames.old depth ≡ Some frame }
     requires inner { IsInner frame }
     requires reaches { Reaches frames.old depth (length values.old.stack) }
-    ensures leads { (program : Program) (w : H) (free left last : ℕ) (outside : Outside) (d : Data) →
-        under H.meaning program free values.old.below frames.old (Branch depth (state_of (record d { values = values.old }) w left last outside))
-        ≡ goes H.meaning program free frames.new result.now values.new (state_of (record d { values = values.new }) w left last outside) }
+    ensures leads { (program : Program) (w : H) (free left last : ℕ) (environment : Environment) (d : Data) →
+        under H.meaning program free values.old.below frames.old (Branch depth (state_of (record d { values = values.old }) w left last environment))
+        ≡ goes H.meaning program free frames.new result.now values.new (state_of (record d { values = values.new }) w left last environment) }
     ensures below { values.new.below ≡ values.old.below }
     ensures nested { (below : ℕ) → Nested below frames.old → Nested below frames.new }
 {

@@ -1,17 +1,20 @@
 //! What one instruction does to a thread (section 4.4.5).
 ghost use Rattle.std.specs.Prelude.{◌≡◌, ℕ, ◌<◌, ◌≤◌, ◌&&◌, None, Some, length, IfOk, slice_get};
 ghost use Rattle.ante_wtree.specs.Expressions.{put, put_shape, expression_of};
-ghost use Rattle.ante_wrun.specs.Effects.{low, top, popped};
-ghost use Rattle.ante_wrun.specs.Meaning.{Outside, Program, result_of, same_kind, same_kinds, is_of, element, on_stack, stack_of, grow, target, acts, call};
-ghost use Rattle.ante_wrun.specs.Machine.{state_of, whole, after, IsNested};
+ghost use Rattle.ante_wmeaning.specs.PlainInstructions.{low, top, popped};
+ghost use Rattle.ante_wmeaning.specs.Environment.{Environment};
+ghost use Rattle.ante_wmeaning.specs.Configurations.{Program, on_stack, stack_of};
+ghost use Rattle.ante_wmeaning.specs.ValueTypes.{result_of, same_kind, same_kinds};
+ghost use Rattle.ante_wmeaning.specs.Execution.{is_of, element, grow, target, acts, call};
+ghost use Rattle.ante_wrun.specs.ThreadStates.{state_of, whole, after, IsNested};
 ghost use Rattle.ante_wrun.specs.Control.{instance_of, program_of, own_at, Leads, NotHostCall, GivenAt, Takes, Leaves};
-ghost use Rattle.ante_wrun.specs.Runs.{NotStuck};
+ghost use Rattle.ante_wmeaning.specs.RunEnds.{NotStuck};
 
 use crate::blocks::{Frame, begin_body, label};
 use crate::data::low;
-use crate::ends::TrapKind;
 use crate::plain::{Tried, plain_with_room};
 use crate::thread::{Thread, branch, leave};
+use ante_wmeaning::TrapKind;
 use ante_wmem::Host;
 use ante_wtree::{FuncType, Instr, Shape, ValueKind, shape_of};
 use std::alloc::{AllocError, Global};
@@ -129,10 +132,10 @@ fn enter<'a, H: Host>(
     requires nested { IsNested thread.old }
     ensures own { IfOk result NotHostCall }
     ensures nested { IfOk result (λ next. IsNested thread.new) }
-    ensures leads { IfOk result (λ next. (program : Program) (w : H) (left last : ℕ) (outside : Outside) →
+    ensures leads { IfOk result (λ next. (program : Program) (w : H) (left last : ℕ) (environment : Environment) →
         Leads H.meaning program
-        (after H.meaning program thread.old (own_at H.meaning program thread.old.free kind.entry.now locals (expression_of body.entry.now) (state_of thread.old.state w left last outside)))
-        next thread.new w left last outside) }
+        (after H.meaning program thread.old (own_at H.meaning program thread.old.free kind.entry.now locals (expression_of body.entry.now) (state_of thread.old.state w left last environment)))
+        next thread.new w left last environment) }
 {
     let params = kind.params.len();
     if thread.free == 0 {
@@ -164,11 +167,11 @@ pub(crate) fn call_function<'a, H: Host>(
     requires nested { IsNested thread.old }
     ensures given { IfOk result (λ next. GivenAt (program_of functions.now) at next) }
     ensures nested { IfOk result (λ next. IsNested thread.new) }
-    ensures leads { IfOk result (λ next. (w : H) (left last : ℕ) (outside : Outside) →
+    ensures leads { IfOk result (λ next. (w : H) (left last : ℕ) (environment : Environment) →
         let program = program_of functions.now in
         Leads H.meaning program
-        (after H.meaning program thread.old (call H.meaning program thread.old.free at (state_of thread.old.state w left last outside)))
-        next thread.new w left last outside) }
+        (after H.meaning program thread.old (call H.meaning program thread.old.free at (state_of thread.old.state w left last environment)))
+        next thread.new w left last environment) }
 {
     match functions.all[at as usize] {
         Function::Own { kind, locals, body } => { enter::<H>(thread, alloc, kind, locals, body) }
@@ -191,12 +194,12 @@ fn call_indirect<'a, H: Host>(
         Leaves (program_of functions.now) (element (program_of functions.now) wanted (low (top stack))) (length (popped stack)) }
     requires nested { IsNested thread.old }
     ensures nested { IfOk result (λ next. IsNested thread.new) }
-    ensures leads { IfOk result (λ next. (w : H) (left last : ℕ) (outside : Outside) →
+    ensures leads { IfOk result (λ next. (w : H) (left last : ℕ) (environment : Environment) →
         let program = program_of functions.now in
-        let s = state_of thread.old.state w left last outside in
+        let s = state_of thread.old.state w left last environment in
         Leads H.meaning program
         (after H.meaning program thread.old (target (element program wanted (low (top (stack_of s)))) (call H.meaning program thread.old.free) (on_stack s (popped (stack_of s)))))
-        next thread.new w left last outside) }
+        next thread.new w left last environment) }
 {
     let at = low(thread.state.values.pop());
     match element(functions, wanted, at) {
@@ -216,11 +219,11 @@ fn grow<'a, H: Host>(
     requires nested { IsNested thread.old }
     ensures falls { left.new ≤ left.old }
     ensures nested { IfOk result (λ next. IsNested thread.new) }
-    ensures leads { IfOk result (λ next. (program : Program) (w : H) (last : ℕ) (outside : Outside) →
-        let s = state_of thread.old.state w left.old last outside in
+    ensures leads { IfOk result (λ next. (program : Program) (w : H) (last : ℕ) (environment : Environment) →
+        let s = state_of thread.old.state w left.old last environment in
         Leads H.meaning program
         (after H.meaning program thread.old (grow (low (top (stack_of s))) (on_stack s (popped (stack_of s)))))
-        next thread.new w left.new last outside) }
+        next thread.new w left.new last environment) }
 {
     let pages = low(thread.state.values.pop());
     let grows = pages <= thread.state.memory.most() - thread.state.memory.pages();
@@ -246,14 +249,14 @@ fn begin<'a, H: Host>(
     alloc: Global,
     shape: Shape<'a>,
 ) -> Result<Next<'a>, AllocError>
-    requires sound { (program : Program) × (w : H) × (left : ℕ) × (last : ℕ) × (outside : Outside) ×
-        NotStuck (whole H.meaning program thread.old (acts program (call H.meaning program thread.old.free) (put_shape shape (expression_of thread.old.code.now)) (state_of thread.old.state w left last outside))) }
+    requires sound { (program : Program) × (w : H) × (left : ℕ) × (last : ℕ) × (environment : Environment) ×
+        NotStuck (whole H.meaning program thread.old (acts program (call H.meaning program thread.old.free) (put_shape shape (expression_of thread.old.code.now)) (state_of thread.old.state w left last environment))) }
     requires nested { IsNested thread.old }
     ensures nested { IfOk result (λ next. IsNested thread.new) }
-    ensures leads { IfOk result (λ next. (program : Program) (w : H) (left last : ℕ) (outside : Outside) →
+    ensures leads { IfOk result (λ next. (program : Program) (w : H) (left last : ℕ) (environment : Environment) →
         Leads H.meaning program
-        (whole H.meaning program thread.old (acts program (call H.meaning program thread.old.free) (put_shape shape.entry (expression_of thread.old.code.now)) (state_of thread.old.state w left last outside)))
-        next thread.new w left last outside) }
+        (whole H.meaning program thread.old (acts program (call H.meaning program thread.old.free) (put_shape shape.entry (expression_of thread.old.code.now)) (state_of thread.old.state w left last environment)))
+        next thread.new w left last environment) }
 {
     let values = &mut thread.state.values;
     match begin_body::<H>(values, &mut thread.frames, alloc, shape, thread.code) {
@@ -274,16 +277,16 @@ pub(crate) fn act<'a, H: Host>(
     instr: &'a Instr,
     left: &mut u64,
 ) -> Result<Next<'a>, AllocError>
-    requires sound { (w : H) × (last : ℕ) × (outside : Outside) × (let program = program_of functions.now in
-        NotStuck (whole H.meaning program thread.old (acts program (call H.meaning program thread.old.free) (put instr.now (expression_of thread.old.code.now)) (state_of thread.old.state w left.old last outside)))) }
+    requires sound { (w : H) × (last : ℕ) × (environment : Environment) × (let program = program_of functions.now in
+        NotStuck (whole H.meaning program thread.old (acts program (call H.meaning program thread.old.free) (put instr.now (expression_of thread.old.code.now)) (state_of thread.old.state w left.old last environment)))) }
     requires nested { IsNested thread.old }
     ensures falls { left.new ≤ left.old }
     ensures nested { IfOk result (λ next. IsNested thread.new) }
-    ensures leads { IfOk result (λ next. (w : H) (last : ℕ) (outside : Outside) →
+    ensures leads { IfOk result (λ next. (w : H) (last : ℕ) (environment : Environment) →
         let program = program_of functions.now in
         Leads H.meaning program
-        (whole H.meaning program thread.old (acts program (call H.meaning program thread.old.free) (put instr.entry.now (expression_of thread.old.code.now)) (state_of thread.old.state w left.old last outside)))
-        next thread.new w left.new last outside) }
+        (whole H.meaning program thread.old (acts program (call H.meaning program thread.old.free) (put instr.entry.now (expression_of thread.old.code.now)) (state_of thread.old.state w left.old last environment)))
+        next thread.new w left.new last environment) }
 {
     let shape = shape_of(instr);
     match shape {

@@ -1,9 +1,9 @@
 //! What the plain instructions change, and the numbers that they read.
 ghost use Rattle.std.specs.Prelude.{◌≡◌, ◌+◌, ◌-◌, ◌≤◌, ◌<◌, ◌^◌, nat_lt, if◌then◌else◌};
-ghost use Rattle.ante_wrun.specs.Effects.{low, trap_of, load_width, store_width, extended};
+ghost use Rattle.ante_wmeaning.specs.PlainInstructions.{low, trap_of, load_width, store_width, extended};
 
-use crate::ends::TrapKind;
 use crate::values::ValueStack;
+use ante_wmeaning::TrapKind;
 use ante_wmem::{Memory, Width};
 use ante_wnum::NumTrap;
 use ante_wtree::{LoadKind, StoreKind};

@@ -4,11 +4,11 @@ ghost use Rattle.std.specs.List.{AllByRecursion};
 ghost use Rattle.std.specs.Str.{bytes_eq};
 ghost use Rattle.ante_wtree.specs.Trees.{body_of, tree_of};
 ghost use Rattle.ante_wvalid.specs.Modules.{IsValid, OutOfBounds};
-ghost use Rattle.ante_wrun.specs.Machine.{values_of};
+ghost use Rattle.ante_wrun.specs.ThreadStates.{values_of};
 ghost use Rattle.ante_wrun.specs.Control.{instance_of, program_of};
-ghost use Rattle.ante_wrun.specs.Instances.{host_place, given_as, given_functions, own, own_functions, constant, offset_of, empty_table, most_pages, empty_memory, elements_fit, data_fits, with_element, with_segment, program_in, first_values, named_apply, apply_in};
-ghost use Rattle.ante_wrun.specs.Assured.{Links, IsLiteral};
-ghost use Rattle.ante_wrun.specs.Parts.{IsInstance};
+ghost use Rattle.ante_wmeaning.specs.Instantiation.{host_place, given_as, given_functions, own, own_functions, constant, offset_of, empty_table, most_pages, empty_memory, elements_fit, data_fits, with_element, with_segment, program_in, first_values, named_apply, apply_in};
+ghost use Rattle.ante_wrun.specs.GrantedByValidity.{Links, IsLiteral};
+ghost use Rattle.ante_wrun.specs.InstanceAndCalls.{IsInstance};
 
 use crate::control::{Function, Functions};
 use crate::data::{Data, low};

@@ -4,10 +4,7 @@
 mod blocks;
 mod control;
 mod data;
-mod ends;
-mod given;
 mod instance;
-pub mod laws;
 mod machine;
 mod plain;
 mod run;
@@ -15,9 +12,8 @@ mod stretch;
 mod thread;
 mod values;
 
+pub use ante_wmeaning::{RunEnd, TrapKind, imports_have_host_types};
 pub use ante_wmem::{Host, HostAnswer, HostFn};
-pub use ends::{RunEnd, TrapKind};
-pub use given::imports_have_host_types;
 pub use machine::Machine;
 
 #[cfg(test)]

@@ -2,23 +2,28 @@
 ghost use Rattle.std.specs.Prelude.{◌≡◌, ℕ, ◌≤◌, [], length, reverse, Ok, IfOk};
 ghost use Rattle.ante_wtree.specs.Trees.{tree_of};
 ghost use Rattle.ante_wvalid.specs.Modules.{IsValid};
-ghost use Rattle.ante_wrun.specs.Meaning.{Outside};
-ghost use Rattle.ante_wrun.specs.Machine.{state_of};
+ghost use Rattle.ante_wmeaning.specs.Environment.{Environment};
+ghost use Rattle.ante_wrun.specs.ThreadStates.{state_of};
 ghost use Rattle.ante_wrun.specs.Control.{program_of};
-ghost use Rattle.ante_wrun.specs.Runs.{Begins, past, ByEvents, Sound, MayCall, MayBelow, IsHosts};
-ghost use Rattle.ante_wrun.specs.Instances.{program_in, apply_in};
-ghost use Rattle.ante_wrun.specs.Running.{most_frames, called_with, start_runs, apply_runs, both_run, run_of, RunAnswers, CountsLooks, NeverAsks, EndsSo, undisturbed, AskedAt, AnswersTyped};
-ghost use Rattle.ante_wrun.specs.Parts.{OnReturn, CallLeads};
+ghost use Rattle.ante_wmeaning.specs.Environment.{Begins, past, ByEvents};
+ghost use Rattle.ante_wmeaning.specs.RunEnds.{Sound};
+ghost use Rattle.ante_wmeaning.specs.HostConditions.{MayCall, MayBelow, IsHosts};
+ghost use Rattle.ante_wmeaning.specs.Instantiation.{program_in, apply_in};
+ghost use Rattle.ante_wmeaning.specs.Environment.{CountsLooks, undisturbed, Passes, AskedLast};
+ghost use Rattle.ante_wmeaning.specs.Invocation.{most_frames, called_with, start_runs, apply_runs, both_run, run_of};
+ghost use Rattle.ante_wmeaning.specs.RunEnds.{RunAnswers, EndsWith, Uncut, Comes};
+ghost use Rattle.ante_wmeaning.specs.HostConditions.{AnswersTyped};
+ghost use Rattle.ante_wrun.specs.InstanceAndCalls.{OnReturn, CallLeads};
 
 use crate::control::Functions;
 use crate::data::Data;
-use crate::ends::{RunEnd, TrapKind};
 use crate::instance::{Instance, apply_index, instantiate};
 use crate::run::invoke;
 use crate::thread::Thread;
 use crate::values::ValueStack;
 use ante_base::Stop;
 use ante_stack::Stack;
+use ante_wmeaning::{RunEnd, TrapKind};
 use ante_wmem::Host;
 use ante_wtree::Module;
 use ante_wvalid::ValidModule;
@@ -32,7 +37,7 @@ pub(crate) enum Called<R> {
     Ended(RunEnd<R>),
 }
 
-#[tactic(auto, unfolding(crate::specs::Running::most_frames))]
+#[tactic(auto, unfolding(ante_wmeaning::specs::Invocation::most_frames))]
 fn most_frames() -> u32
     ensures { result ≡ most_frames }
 {
@@ -66,13 +71,12 @@ fn call_with<'a, H: Host, P: Stop>(
 ) -> Result<Called<H::Refusal>, AllocError>
     requires below { MayBelow H.allowed (program_of functions.now) host.old left.old }
     requires here { IsHosts (program_of functions.now) function → MayCall H.allowed (program_of functions.now) host.old left.old }
-    requires sound { Sound (λ outside. called_with H.meaning (program_of functions.now) args.now function (state_of state host.old left.old last.old outside)) }
+    requires sound { Sound (λ environment. called_with H.meaning (program_of functions.now) args.now function (state_of state host.old left.old last.old environment)) }
     ensures leads { let program = program_of functions.now in
-        ByEvents P.may stop.old stop.new (λ events. (outside : Outside) → Begins outside events →
-        CallLeads H.stands (called_with H.meaning program args.now function (state_of state host.old left.old last.old outside))
-        result host.new left.new last.new (past outside events)) }
+        ByEvents P.may stop.old stop.new (λ events. (environment : Environment) → Begins environment events →
+        CallLeads H.stands (called_with H.meaning program args.now function (state_of state host.old left.old last.old environment))
+        result host.new left.new last.new (past environment events)) }
     ensures allowed { IfOk result (λ called. OnReturn called (MayBelow H.allowed (program_of functions.now) host.new left.new)) }
-    ensures cut { (at : ℕ) → result ≡ Ok (Called.Ended (RunEnd.Cut at)) → AskedAt P.may at stop.new }
     ensures falls { left.new ≤ left.old }
 {
     let values = operands(alloc, args)?;
@@ -115,13 +119,12 @@ fn call_start<'a, H: Host, P: Stop>(
 ) -> Result<Called<H::Refusal>, AllocError>
     requires below { MayBelow H.allowed (program_of functions.now) host.old left.old }
     requires here { MayCall H.allowed (program_of functions.now) host.old left.old }
-    requires sound { Sound (λ outside. start_runs H.meaning (program_of functions.now) start (state_of state host.old left.old last.old outside)) }
+    requires sound { Sound (λ environment. start_runs H.meaning (program_of functions.now) start (state_of state host.old left.old last.old environment)) }
     ensures leads { let program = program_of functions.now in
-        ByEvents P.may stop.old stop.new (λ events. (outside : Outside) → Begins outside events →
-        CallLeads H.stands (start_runs H.meaning program start (state_of state host.old left.old last.old outside))
-        result host.new left.new last.new (past outside events)) }
+        ByEvents P.may stop.old stop.new (λ events. (environment : Environment) → Begins environment events →
+        CallLeads H.stands (start_runs H.meaning program start (state_of state host.old left.old last.old environment))
+        result host.new left.new last.new (past environment events)) }
     ensures allowed { IfOk result (λ called. OnReturn called (MayBelow H.allowed (program_of functions.now) host.new left.new)) }
-    ensures cut { (at : ℕ) → result ≡ Ok (Called.Ended (RunEnd.Cut at)) → AskedAt P.may at stop.new }
     ensures falls { left.new ≤ left.old }
 {
     match start {
@@ -155,12 +158,11 @@ fn call_apply<'a, H: Host, P: Stop>(
     requires valid { IsValid (tree_of module.now) }
     requires program { program_of functions.now ≡ program_in (tree_of module.now) }
     requires below { MayBelow H.allowed (program_of functions.now) host.old left.old }
-    requires sound { Sound (λ outside. apply_runs H.meaning (program_of functions.now) (apply_in (tree_of module.now)) args.now (state_of state host.old left.old last.old outside)) }
-    ensures cut { (at : ℕ) → result ≡ Ok (RunEnd.Cut at) → AskedAt P.may at stop.new }
+    requires sound { Sound (λ environment. apply_runs H.meaning (program_of functions.now) (apply_in (tree_of module.now)) args.now (state_of state host.old left.old last.old environment)) }
     ensures falls { left.new ≤ left.old }
-    ensures ends { ByEvents P.may stop.old stop.new (λ events. (outside : Outside) → Begins outside events →
-        RunAnswers H.stands (apply_runs H.meaning (program_of functions.now) (apply_in (tree_of module.now)) args.now (state_of state host.old left.old last.old outside))
-        result host.new left.new (past outside events)) }
+    ensures ends { ByEvents P.may stop.old stop.new (λ events. (environment : Environment) → Begins environment events →
+        RunAnswers H.stands (apply_runs H.meaning (program_of functions.now) (apply_in (tree_of module.now)) args.now (state_of state host.old left.old last.old environment))
+        result host.new left.new (past environment events)) }
 {
     let Some(apply) = apply_index(module) else {
         unreachable!()
@@ -188,11 +190,10 @@ fn call_both<'a, H: Host, P: Stop>(
     requires answers { AnswersTyped H.allowed H.meaning (program_in (tree_of module.now)) }
     requires globals { length state.globals.items ≡ length module.now.globals }
     requires arguments { length args.now ≡ 3 }
-    ensures cut { (at : ℕ) → result ≡ Ok (RunEnd.Cut at) → AskedAt P.may at stop.new }
     ensures falls { left.new ≤ left.old }
-    ensures ends { ByEvents P.may stop.old stop.new (λ events. (outside : Outside) → Begins outside events →
-        RunAnswers H.stands (both_run H.meaning (program_of functions.now) (tree_of module.now) args.now (state_of state host.old left.old left.old outside))
-        result host.new left.new (past outside events)) }
+    ensures ends { ByEvents P.may stop.old stop.new (λ events. (environment : Environment) → Begins environment events →
+        RunAnswers H.stands (both_run H.meaning (program_of functions.now) (tree_of module.now) args.now (state_of state host.old left.old left.old environment))
+        result host.new left.new (past environment events)) }
 {
     let mut last = *left;
     let start = module.start;
@@ -217,10 +218,9 @@ fn run_module<H: Host, P: Stop>(
     requires allowed { MayCall H.allowed (program_in (tree_of module.now)) host.old left.old }
     requires answers { AnswersTyped H.allowed H.meaning (program_in (tree_of module.now)) }
     requires arguments { length args.now ≡ 3 }
-    ensures cut { (at : ℕ) → result ≡ Ok (RunEnd.Cut at) → AskedAt P.may at stop.new }
     ensures falls { left.new ≤ left.old }
-    ensures ends { ByEvents P.may stop.old stop.new (λ events. (outside : Outside) → Begins outside events →
-        RunAnswers H.stands (run_of H.meaning (tree_of module.now) args.now host.old left.old outside) result host.new left.new (past outside events)) }
+    ensures ends { ByEvents P.may stop.old stop.new (λ events. (environment : Environment) → Begins environment events →
+        RunAnswers H.stands (run_of H.meaning (tree_of module.now) args.now host.old left.old environment) result host.new left.new (past environment events)) }
 {
     let Some(instance) = instantiate(alloc, module)? else {
         return Ok(RunEnd::Trap(TrapKind::OutOfBounds));
@@ -256,14 +256,20 @@ impl Machine {
         // The host allows each import, with all arguments of its type, and answers as a function of that type does.
         requires allowed { MayCall H.allowed (program_in (tree_of module.now)) host.old left.old }
         requires answers { AnswersTyped H.allowed H.meaning (program_in (tree_of module.now)) }
-        ensures ends { ByEvents P.may stop.old stop.new (λ events. (outside : Outside) → Begins outside events →
-            RunAnswers H.stands (run_of H.meaning (tree_of module.now) args host.old left.old outside) result host.new left.new (past outside events)
-            × CountsLooks (P.looks stop.old) (P.looks stop.new) outside (past outside events)) }
-        ensures cut { (at : ℕ) → result ≡ Ok (RunEnd.Cut at) → AskedAt P.may at stop.new }
-        ensures falls { left.new ≤ left.old }
+        ensures ends { ByEvents P.may stop.old stop.new (λ events. (environment : Environment) → Begins environment events →
+            RunAnswers H.stands (run_of H.meaning (tree_of module.now) args host.old left.old environment) result host.new left.new (past environment events)
+            × CountsLooks (P.looks stop.old) (P.looks stop.new) environment (past environment events)) }
 
-        // Where no look asks the run to stop.
-        ensures undisturbed { NeverAsks P.may → IfOk result (λ end. EndsSo H.stands end host.new left.new (run_of H.meaning (tree_of module.now) args host.old left.old undisturbed)) }
+        // The same where what was asked is left out: with this, `answers_like` says what a run is over any host that replies alike.
+        ensures comes { Comes H.stands (λ (environment : Environment). run_of H.meaning (tree_of module.now) args host.old left.old environment) result host.new left.new }
+
+        // A run that no look cut is the run that nothing disturbs, with as many looks.
+        ensures undisturbed { Uncut result → IfOk result (λ end. EndsWith H.stands end host.new left.new (CountsLooks (P.looks stop.old) (P.looks stop.new) undisturbed)
+            (run_of H.meaning (tree_of module.now) args host.old left.old undisturbed)) }
+        ensures cut { (at : ℕ) → result ≡ Ok (RunEnd.Cut at) → AskedLast P.may stop.old at stop.new }
+        ensures uncut { Uncut result → Passes P.may stop.old stop.new }
+        ensures limit { result ≡ Ok RunEnd.StepLimit → left.new ≡ 0 }
+        ensures falls { left.new ≤ left.old }
     {
         run_module(alloc, module.module(), &args, host, stop, left)
     }

@@ -1,12 +1,12 @@
 //! The plain instructions (sections 4.4.1 to 4.4.4).
 ghost use Rattle.std.specs.Prelude.{◌≡◌, ◌<◌, ◌==◌, if◌then◌else◌, ℕ, List, length};
 ghost use Rattle.ante_wmem.specs.Linear.{LinearMemory};
-ghost use Rattle.ante_wrun.specs.Effects.{gives, done, popped};
-ghost use Rattle.ante_wrun.specs.Machine.{values_in, values_of, Tries, TriesPlain, Ready, plain_of};
+ghost use Rattle.ante_wmeaning.specs.PlainInstructions.{gives, done, popped};
+ghost use Rattle.ante_wrun.specs.ThreadStates.{values_in, values_of, Tries, TriesPlain, Ready, plain_of};
 
 use crate::data::{Data, extended, load_width, low, store_width, trap_of};
-use crate::ends::TrapKind;
 use crate::values::ValueStack;
+use ante_wmeaning::TrapKind;
 use ante_wmem::Memory;
 use ante_wnum::{
     Binary, Compare, Unary, i32_binary, i32_compare, i32_unary, i64_binary, i64_compare, i64_unary,

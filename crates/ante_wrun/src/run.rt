@@ -1,19 +1,24 @@
 //! The loop of a run: looks, steps, instructions and host calls.
 ghost use Rattle.std.specs.Prelude.{◌≡◌, ℕ, ◌<◌, ◌≤◌, [], length, Ok, None, Some};
 ghost use Rattle.ante_wmem.specs.HostCalls.{StaysAllowed};
-ghost use Rattle.ante_wrun.specs.Effects.{popped};
-ghost use Rattle.ante_wrun.specs.Meaning.{Outside, Program, invoked, round, due, arguments, masked, on_stack, call_host};
-ghost use Rattle.ante_wrun.specs.Machine.{state_of, going, after, IsNested};
+ghost use Rattle.ante_wmeaning.specs.PlainInstructions.{popped};
+ghost use Rattle.ante_wmeaning.specs.Environment.{Environment};
+ghost use Rattle.ante_wmeaning.specs.Configurations.{Program, on_stack};
+ghost use Rattle.ante_wmeaning.specs.ValueTypes.{masked};
+ghost use Rattle.ante_wmeaning.specs.Execution.{invoked, round, due, arguments, call_host};
+ghost use Rattle.ante_wrun.specs.ThreadStates.{state_of, going, after, IsNested};
 ghost use Rattle.ante_wrun.specs.Control.{program_of};
-ghost use Rattle.ante_wrun.specs.Runs.{Begins, past, ByEvents, Sound, MayCall, MayBelow, IsHosts};
-ghost use Rattle.ante_wrun.specs.Turns.{Replies, MayLook, look_of, Pays, HostLeads, TurnLeads, RunLeads};
-ghost use Rattle.ante_wrun.specs.Running.{AskedAt};
+ghost use Rattle.ante_wmeaning.specs.Environment.{Begins, past, ByEvents};
+ghost use Rattle.ante_wmeaning.specs.RunEnds.{Sound};
+ghost use Rattle.ante_wmeaning.specs.HostConditions.{MayCall, MayBelow, IsHosts};
+ghost use Rattle.ante_wmeaning.specs.HostConditions.{Replies};
+ghost use Rattle.ante_wrun.specs.InstructionCycle.{MayLook, look_of, Pays, HostLeads, TurnLeads, RunLeads};
 
 use crate::control::{Functions, Next, act, call_function};
-use crate::ends::RunEnd;
 use crate::stretch::run_stretch;
 use crate::thread::{Thread, next_instr};
 use ante_base::Stop;
+use ante_wmeaning::RunEnd;
 use ante_wmem::{Host, HostAnswer, HostFn};
 use ante_wtree::FuncType;
 use std::alloc::{AllocError, Global};
@@ -97,14 +102,13 @@ fn host_call<'a, H: Host>(
     requires nested { IsNested thread.old }
     requires allowed { H.allowed host.old number (masked kind.now.params (arguments (length kind.now.params) (popped thread.old.state.values.stack))) left.old }
     requires replies { Replies kind.now.results (H.meaning host.old number (masked kind.now.params (arguments (length kind.now.params) (popped thread.old.state.values.stack))) thread.old.state.memory left.old).reply }
-    ensures leads { (program : Program) (last : ℕ) (outside : Outside) →
-        let s = on_stack (state_of thread.old.state host.old left.old last outside) (popped thread.old.state.values.stack) in
-        HostLeads H.meaning H.stands program (after H.meaning program thread.old (call_host H.meaning kind.now number s)) result thread.new host.new left.new last outside }
+    ensures leads { (program : Program) (last : ℕ) (environment : Environment) →
+        let s = on_stack (state_of thread.old.state host.old left.old last environment) (popped thread.old.state.values.stack) in
+        HostLeads H.meaning H.stands program (after H.meaning program thread.old (call_host H.meaning kind.now number s)) result thread.new host.new left.new last environment }
     ensures after { StaysAllowed H.allowed host.old left.old host.new left.new }
     ensures nested { IsNested thread.new }
     ensures falls { left.new ≤ left.old }
     ensures early { result ≡ HostNext.Ended RunEnd.Done → ⊥ }
-    ensures uncut { (at : ℕ) → result ≡ HostNext.Ended (RunEnd.Cut at) → ⊥ }
 {
     let count = kind.params.len();
     thread.state.values.mask(kind.params.as_slice());
@@ -140,19 +144,18 @@ fn turn<'a, H: Host, P: Stop>(
     last: &mut u64,
 ) -> Result<Progress<H::Refusal>, AllocError>
     requires below { MayBelow H.allowed (program_of functions.now) host.old left.old }
-    requires sound { Sound (λ outside. going H.meaning (program_of functions.now) thread.old (state_of thread.old.state host.old left.old last.old outside)) }
+    requires sound { Sound (λ environment. going H.meaning (program_of functions.now) thread.old (state_of thread.old.state host.old left.old last.old environment)) }
     requires nested { IsNested thread.old }
     ensures leads { let program = program_of functions.now in
-        ByEvents P.may stop.old stop.new (λ events. (outside : Outside) → Begins outside events →
-        TurnLeads H.meaning H.stands program (going H.meaning program thread.old (state_of thread.old.state host.old left.old last.old outside))
-        result thread.new host.new left.new last.new (past outside events)) }
+        ByEvents P.may stop.old stop.new (λ events. (environment : Environment) → Begins environment events →
+        TurnLeads H.meaning H.stands program (going H.meaning program thread.old (state_of thread.old.state host.old left.old last.old environment))
+        result thread.new host.new left.new last.new (past environment events)) }
     ensures falls { result ≡ Ok Progress.Go → left.new < left.old }
     ensures allowed { result ≡ Ok Progress.Go → MayBelow H.allowed (program_of functions.now) host.new left.new }
-    ensures sound { result ≡ Ok Progress.Go → Sound (λ outside. going H.meaning (program_of functions.now) thread.new (state_of thread.new.state host.new left.new last.new outside)) }
+    ensures sound { result ≡ Ok Progress.Go → Sound (λ environment. going H.meaning (program_of functions.now) thread.new (state_of thread.new.state host.new left.new last.new environment)) }
     ensures nested { result ≡ Ok Progress.Go → IsNested thread.new }
     ensures over { result ≡ Ok Progress.Over → MayBelow H.allowed (program_of functions.now) host.new left.new }
     ensures early { result ≡ Ok (Progress.Ended RunEnd.Done) → ⊥ }
-    ensures cut { (at : ℕ) → result ≡ Ok (Progress.Ended (RunEnd.Cut at)) → AskedAt P.may at stop.new }
     ensures sinks { left.new ≤ left.old }
 {
     let instr = match next_instr::<H>(thread) {
@@ -192,15 +195,14 @@ fn run_thread<'a, H: Host, P: Stop>(
     last: &mut u64,
 ) -> Result<Option<RunEnd<H::Refusal>>, AllocError>
     requires below { MayBelow H.allowed (program_of functions.now) host.old left.old }
-    requires sound { Sound (λ outside. going H.meaning (program_of functions.now) thread.old (state_of thread.old.state host.old left.old last.old outside)) }
+    requires sound { Sound (λ environment. going H.meaning (program_of functions.now) thread.old (state_of thread.old.state host.old left.old last.old environment)) }
     requires nested { IsNested thread.old }
     ensures leads { let program = program_of functions.now in
-        ByEvents P.may stop.old stop.new (λ events. (outside : Outside) → Begins outside events →
-        RunLeads H.stands (going H.meaning program thread.old (state_of thread.old.state host.old left.old last.old outside))
-        result thread.new host.new left.new last.new (past outside events)) }
+        ByEvents P.may stop.old stop.new (λ events. (environment : Environment) → Begins environment events →
+        RunLeads H.stands (going H.meaning program thread.old (state_of thread.old.state host.old left.old last.old environment))
+        result thread.new host.new left.new last.new (past environment events)) }
     ensures allowed { result ≡ Ok None → MayBelow H.allowed (program_of functions.now) host.new left.new }
     ensures early { result ≡ Ok (Some RunEnd.Done) → ⊥ }
-    ensures cut { (at : ℕ) → result ≡ Ok (Some (RunEnd.Cut at)) → AskedAt P.may at stop.new }
     ensures sinks { left.new ≤ left.old }
 {
     'turns: loop {
@@ -229,15 +231,14 @@ pub(crate) fn invoke<'a, H: Host, P: Stop>(
 ) -> Result<Option<RunEnd<H::Refusal>>, AllocError>
     requires idle { (length thread.old.code.now ≡ 0) × (thread.old.frames ≡ []) }
     requires below { MayBelow H.allowed (program_of functions.now) host.old left.old }
-    requires sound { Sound (λ outside. invoked H.meaning (program_of functions.now) thread.old.free function (state_of thread.old.state host.old left.old last.old outside)) }
+    requires sound { Sound (λ environment. invoked H.meaning (program_of functions.now) thread.old.free function (state_of thread.old.state host.old left.old last.old environment)) }
     requires here { IsHosts (program_of functions.now) function → MayCall H.allowed (program_of functions.now) host.old left.old }
     ensures leads { let program = program_of functions.now in
-        ByEvents P.may stop.old stop.new (λ events. (outside : Outside) → Begins outside events →
-        RunLeads H.stands (invoked H.meaning program thread.old.free function (state_of thread.old.state host.old left.old last.old outside))
-        result thread.new host.new left.new last.new (past outside events)) }
+        ByEvents P.may stop.old stop.new (λ events. (environment : Environment) → Begins environment events →
+        RunLeads H.stands (invoked H.meaning program thread.old.free function (state_of thread.old.state host.old left.old last.old environment))
+        result thread.new host.new left.new last.new (past environment events)) }
     ensures allowed { result ≡ Ok None → MayBelow H.allowed (program_of functions.now) host.new left.new }
     ensures early { result ≡ Ok (Some RunEnd.Done) → ⊥ }
-    ensures cut { (at : ℕ) → result ≡ Ok (Some (RunEnd.Cut at)) → AskedAt P.may at stop.new }
     ensures sinks { left.new ≤ left.old }
 {
     match call_function::<H>(thread, functions, alloc, function) {

@@ -1,17 +1,19 @@
 //! Stretches of instructions that no look interrupts and that want no memory: plain ones, and blocks and branches inside a
 //! function. Their values, steps and code are kept at hand until the stretch ends.
 ghost use Rattle.std.specs.Prelude.{◌≡◌, ℕ, ◌-◌, ◌<◌, ◌≤◌, ◌%◌};
-ghost use Rattle.ante_wrun.specs.Meaning.{Outside, Program};
-ghost use Rattle.ante_wrun.specs.Machine.{goes, state_of, going, IsNested, Nested};
-ghost use Rattle.ante_wrun.specs.Runs.{Begins, past, Sound};
-ghost use Rattle.ante_wrun.specs.Stretches.{stepping, Quietly, MoveLeads, CodeLeads, StretchLeads};
+ghost use Rattle.ante_wmeaning.specs.Environment.{Environment};
+ghost use Rattle.ante_wmeaning.specs.Configurations.{Program};
+ghost use Rattle.ante_wrun.specs.ThreadStates.{goes, state_of, going, IsNested, Nested};
+ghost use Rattle.ante_wmeaning.specs.Environment.{Begins, past};
+ghost use Rattle.ante_wmeaning.specs.RunEnds.{Sound};
+ghost use Rattle.ante_wrun.specs.Stretches.{stepping, WithoutLooks, MoveLeads, CodeLeads, StretchLeads};
 
 use crate::blocks::{Frame, after_blocks, control_within};
-use crate::ends::TrapKind;
 use crate::plain::{Tried, plain};
 use crate::thread::Thread;
 use crate::values::ValueStack;
 use ante_stack::Stack;
+use ante_wmeaning::TrapKind;
 use ante_wmem::{Host, Memory};
 use ante_wtree::Instr;
 use std::alloc::Global;
@@ -46,11 +48,11 @@ fn advance<'a, H: Host>(
     code: &'a [Instr],
 ) -> Moved<'a>
     requires { (program : Program) × (w : H) × (free : ℕ) × (left : ℕ) × (0 < left % 1024) ×
-        Sound (λ outside. goes H.meaning program free frames.old code.now values.old (stepping values.old globals.old.items memory.old w left outside)) }
-    ensures leads { (program : Program) (w : H) (free left : ℕ) → 0 < left % 1024 → Quietly (λ events. (outside : Outside) → Begins outside events →
+        Sound (λ environment. goes H.meaning program free frames.old code.now values.old (stepping values.old globals.old.items memory.old w left environment)) }
+    ensures leads { (program : Program) (w : H) (free left : ℕ) → 0 < left % 1024 → WithoutLooks (λ events. (environment : Environment) → Begins environment events →
         MoveLeads H.meaning program free frames.new
-        (goes H.meaning program free frames.old code.entry.now values.old (stepping values.old globals.old.items memory.old w left outside))
-        result values.new (stepping values.new globals.new.items memory.new w (left - 1) (past outside events))) }
+        (goes H.meaning program free frames.old code.entry.now values.old (stepping values.old globals.old.items memory.old w left environment))
+        result values.new (stepping values.new globals.new.items memory.new w (left - 1) (past environment events))) }
     ensures undone { result ≡ Moved.Stays → (values.new ≡ values.old) × (globals.new.items ≡ globals.old.items) × (memory.new ≡ memory.old) × (frames.new ≡ frames.old) }
     ensures below { values.new.below ≡ values.old.below }
     ensures nested { (below : ℕ) → Nested below frames.old → Nested below frames.new }
@@ -80,11 +82,11 @@ fn run_code<'a, H: Host>(
     most: u64,
 ) -> Stretch<'a>
     requires { (program : Program) × (w : H) × (free : ℕ) × (left : ℕ) × (most ≤ left % 1024) ×
-        Sound (λ outside. goes H.meaning program free frames.old code.now values.old (stepping values.old globals.old.items memory.old w left outside)) }
-    ensures leads { (program : Program) (w : H) (free left : ℕ) → most ≤ left % 1024 → Quietly (λ events. (outside : Outside) → Begins outside events →
+        Sound (λ environment. goes H.meaning program free frames.old code.now values.old (stepping values.old globals.old.items memory.old w left environment)) }
+    ensures leads { (program : Program) (w : H) (free left : ℕ) → most ≤ left % 1024 → WithoutLooks (λ events. (environment : Environment) → Begins environment events →
         CodeLeads H.meaning program free frames.new
-        (goes H.meaning program free frames.old code.entry.now values.old (stepping values.old globals.old.items memory.old w left outside))
-        result.trap result.code.now values.new (stepping values.new globals.new.items memory.new w (left - result.steps) (past outside events))) }
+        (goes H.meaning program free frames.old code.entry.now values.old (stepping values.old globals.old.items memory.old w left environment))
+        result.trap result.code.now values.new (stepping values.new globals.new.items memory.new w (left - result.steps) (past environment events))) }
     ensures few { result.steps ≤ most }
     ensures below { values.new.below ≡ values.old.below }
     ensures nested { (below : ℕ) → Nested below frames.old → Nested below frames.new }
@@ -130,11 +132,11 @@ pub(crate) fn run_stretch<'a, H: Host>(
     last: &mut u64,
 ) -> Option<TrapKind>
     requires nested { IsNested thread.old }
-    requires sound { (program : Program) × (w : H) × Sound (λ outside. going H.meaning program thread.old (state_of thread.old.state w left.old last.old outside)) }
-    ensures leads { (program : Program) (w : H) → Quietly (λ events. (outside : Outside) → Begins outside events →
+    requires sound { (program : Program) × (w : H) × Sound (λ environment. going H.meaning program thread.old (state_of thread.old.state w left.old last.old environment)) }
+    ensures leads { (program : Program) (w : H) → WithoutLooks (λ events. (environment : Environment) → Begins environment events →
         StretchLeads H.meaning program
-        (going H.meaning program thread.old (state_of thread.old.state w left.old last.old outside))
-        result thread.new w left.new last.new (past outside events)) }
+        (going H.meaning program thread.old (state_of thread.old.state w left.old last.old environment))
+        result thread.new w left.new last.new (past environment events)) }
     ensures sinks { left.new ≤ left.old }
     ensures nested { IsNested thread.new }
 {

@@ -1,7 +1,8 @@
 //! The locals and operands of all frames in one growing list.
 ghost use Rattle.std.specs.Prelude.{◌≡◌, ◌+◌, ◌<◌, ◌≤◌, [], ◌∷◌, ◌++◌, length, take, drop, reverse, replicate, slice_index, slice_set, OnOk, OnErr};
-ghost use Rattle.ante_wrun.specs.Effects.{top, popped};
-ghost use Rattle.ante_wrun.specs.Meaning.{keep, unwound, arity, arguments, mask, masked};
+ghost use Rattle.ante_wmeaning.specs.PlainInstructions.{top, popped};
+ghost use Rattle.ante_wmeaning.specs.ValueTypes.{arity, mask, masked};
+ghost use Rattle.ante_wmeaning.specs.Execution.{keep, unwound, arguments};
 
 use ante_slots::Slots;
 use ante_wtree::ValueKind;

@@ -1,6 +1,6 @@
 use Rattle.std.proofs.Common.{[], ◌∷◌, length, drop, sym, ap, subst, ◌∙◌}
 use Rattle.std.proofs.lemmas.Bool.{eqb-true}
-use Rattle.ante_wrun.specs.Machine.{goes, Nested}
+use Rattle.ante_wrun.specs.ThreadStates.{goes, Nested}
 use Rattle.ante_wrun.proofs.Bodies.{no_items}
 use Rattle.ante_wrun.proofs.blocks.after_blocks.Goals as goal
 

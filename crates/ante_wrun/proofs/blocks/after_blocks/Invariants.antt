@@ -1,5 +1,5 @@
 use Rattle.std.proofs.Common.{ℕ, length}
-use Rattle.ante_wrun.specs.Machine.{Nested}
+use Rattle.ante_wrun.specs.ThreadStates.{Nested}
 use Rattle.ante_wrun.specs.Stretches.{SameFrom}
 use Rattle.ante_wrun.proofs.blocks.after_blocks.Given as goal
 

@@ -2,9 +2,9 @@ use Rattle.std.proofs.Common.{◌≡◌, ◌∷◌, ◌-◌, length, refl, sym, 
 use Rattle.std.specs.Prelude.{◌==◌}
 use Rattle.ante_wtree.specs.Expressions.{put_shape, expression_of}
 use Rattle.ante_wrun.specs.declared.blocks.Frame.TheVariants as frame
-use Rattle.ante_wrun.specs.Effects.{low, top}
-use Rattle.ante_wrun.specs.Meaning.{acts, does, call}
-use Rattle.ante_wrun.specs.Machine.{state_of, under, goes}
+use Rattle.ante_wmeaning.specs.PlainInstructions.{low, top}
+use Rattle.ante_wmeaning.specs.Execution.{acts, does, call}
+use Rattle.ante_wrun.specs.ThreadStates.{state_of, under, goes}
 use Rattle.ante_wrun.proofs.Bodies.{again}
 use Rattle.ante_wrun.proofs.Calls.{conditional}
 use Rattle.ante_wrun.proofs.Rules.{If_is}

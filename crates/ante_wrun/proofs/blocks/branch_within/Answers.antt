@@ -2,9 +2,9 @@ use Rattle.std.proofs.Common.{◌≡◌, false, length, refl, sym, ap, subst, �
 use Rattle.std.specs.Prelude.{◌==◌, slice_index_or}
 use Rattle.std.proofs.lemmas.Bool.{eqb-true}
 use Rattle.ante_wtree.specs.Expressions.{put_shape, expression_of}
-use Rattle.ante_wrun.specs.Effects.{low, top, popped}
-use Rattle.ante_wrun.specs.Meaning.{Branch}
-use Rattle.ante_wrun.specs.Machine.{state_of, under, Reaches}
+use Rattle.ante_wmeaning.specs.PlainInstructions.{low, top, popped}
+use Rattle.ante_wmeaning.specs.Configurations.{Branch}
+use Rattle.ante_wrun.specs.ThreadStates.{state_of, under, Reaches}
 use Rattle.ante_wrun.proofs.Landing.{takes, reaches_by, goes_on, taken, reaches_if, tabled, reaches_tabled}
 use Rattle.ante_wrun.proofs.blocks.branch_within.Goals as goal
 

@@ -1,8 +1,8 @@
 use Rattle.std.proofs.Common.{sym, subst}
 use Rattle.ante_wtree.specs.Expressions.{expression_of}
-use Rattle.ante_wrun.specs.Meaning.{acts, call}
-use Rattle.ante_wrun.specs.Machine.{state_of, under}
-use Rattle.ante_wrun.specs.Runs.{NotStuck}
+use Rattle.ante_wmeaning.specs.Execution.{acts, call}
+use Rattle.ante_wrun.specs.ThreadStates.{state_of, under}
+use Rattle.ante_wmeaning.specs.RunEnds.{NotStuck}
 use Rattle.ante_wrun.specs.Stretches.{BranchLeads}
 use Rattle.ante_wrun.proofs.blocks.control_within.Goals as goal
 

@@ -1,5 +1,5 @@
 use Rattle.std.proofs.Common.{Some, length, sym, ap, subst, ◌∙◌}
-use Rattle.ante_wrun.specs.Machine.{Reaches, Nested}
+use Rattle.ante_wrun.specs.ThreadStates.{Reaches, Nested}
 use Rattle.ante_wrun.proofs.Landing.{reached, nested_past, in_front, land_at_block, land_at_loop}
 use Rattle.ante_wrun.proofs.blocks.land.Goals as goal
 

@@ -1,5 +1,5 @@
 use Rattle.std.proofs.Common.{◌≡◌, length}
-use Rattle.ante_wrun.specs.Meaning.{same_kinds}
+use Rattle.ante_wmeaning.specs.ValueTypes.{same_kinds}
 use Rattle.ante_wrun.proofs.control.same_kinds.Given as goal
 
 abbrev pub invariant-kinds : goal.invariant-kinds

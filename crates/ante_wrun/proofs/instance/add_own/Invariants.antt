@@ -2,7 +2,7 @@ use Rattle.std.proofs.Common.{◌≡◌, ◌<◌, ◌++◌, length, map}
 use Rattle.std.specs.List.{AllByRecursion}
 use Rattle.ante_wtree.specs.Trees.{body_of}
 use Rattle.ante_wrun.specs.Control.{instance_of}
-use Rattle.ante_wrun.specs.Instances.{own_functions}
+use Rattle.ante_wmeaning.specs.Instantiation.{own_functions}
 use Rattle.ante_wrun.proofs.instance.add_own.Given as goal
 
 abbrev pub invariant-functions : goal.invariant-functions

@@ -1,7 +1,7 @@
 use Rattle.std.proofs.Common.{ap, ◌∙◌}
 use Rattle.ante_wtree.specs.Trees.{tree_of}
-use Rattle.ante_wrun.specs.Instances.{named_apply}
-use Rattle.ante_wrun.proofs.Reached.{apply_by_name}
+use Rattle.ante_wmeaning.specs.Instantiation.{named_apply}
+use Rattle.ante_wmeaning.proofs.Reached.{apply_by_name}
 use Rattle.ante_wrun.proofs.instance.apply_index.Goals as goal
 
 pub returns : goal.returns

@@ -1,7 +1,7 @@
 use Rattle.std.proofs.Common.{◌≡◌, length}
 use Rattle.std.specs.List.{AllByRecursion}
-use Rattle.ante_wrun.specs.Instances.{data_fits}
-use Rattle.ante_wrun.specs.Assured.{IsLiteral}
+use Rattle.ante_wmeaning.specs.Instantiation.{data_fits}
+use Rattle.ante_wrun.specs.GrantedByValidity.{IsLiteral}
 use Rattle.ante_wrun.proofs.instance.data_fits.Given as goal
 
 abbrev pub invariant-segments : goal.invariant-segments

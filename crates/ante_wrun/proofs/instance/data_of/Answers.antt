@@ -5,7 +5,7 @@ use Rattle.ante_wtree.specs.Trees.{tree_of}
 use Rattle.ante_wvalid.specs.declared.kinds.ModuleRule.TheVariants as rule
 use Rattle.ante_wvalid.specs.declared.kinds.InvalidKind.TheVariants as invalid
 use Rattle.ante_wvalid.specs.Modules.{OutOfBounds}
-use Rattle.ante_wrun.specs.Assured.{IsLiteral}
+use Rattle.ante_wrun.specs.GrantedByValidity.{IsLiteral}
 use Rattle.ante_wrun.proofs.Assured.{literal_globals}
 use Rattle.ante_wrun.proofs.instance.data_of.Goals as goal
 

@@ -1,7 +1,7 @@
 use Rattle.std.proofs.Common.{◌≡◌, length}
 use Rattle.std.specs.List.{AllByRecursion}
-use Rattle.ante_wrun.specs.Instances.{elements_fit}
-use Rattle.ante_wrun.specs.Assured.{IsLiteral}
+use Rattle.ante_wmeaning.specs.Instantiation.{elements_fit}
+use Rattle.ante_wrun.specs.GrantedByValidity.{IsLiteral}
 use Rattle.ante_wrun.proofs.instance.elements_fit.Given as goal
 
 abbrev pub invariant-elements : goal.invariant-elements

@@ -1,7 +1,7 @@
 use Rattle.std.proofs.Common.{◌≡◌, ◌++◌, length, map}
 use Rattle.std.specs.List.{AllByRecursion}
-use Rattle.ante_wrun.specs.Instances.{constant}
-use Rattle.ante_wrun.specs.Assured.{IsLiteral}
+use Rattle.ante_wmeaning.specs.Instantiation.{constant}
+use Rattle.ante_wrun.specs.GrantedByValidity.{IsLiteral}
 use Rattle.ante_wrun.proofs.instance.first_globals.Given as goal
 
 abbrev pub invariant-globals : goal.invariant-globals

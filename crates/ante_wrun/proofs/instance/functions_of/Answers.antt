@@ -2,7 +2,7 @@ use Rattle.std.proofs.Common.{◌<◌, length, sym, ap, subst, ◌∙◌}
 use Rattle.std.specs.List.{AllByRecursion}
 use Rattle.std.proofs.lemmas.List.{length-map}
 use Rattle.ante_wtree.specs.Trees.{body_of, tree_of}
-use Rattle.ante_wrun.specs.Assured.{Links}
+use Rattle.ante_wrun.specs.GrantedByValidity.{Links}
 use Rattle.ante_wrun.proofs.Assured.{imports_link, types_there, as_many_bodies}
 use Rattle.ante_wrun.proofs.instance.functions_of.Goals as goal
 

@@ -1,8 +1,8 @@
 use Rattle.std.proofs.Common.{◌≡◌, ◌++◌, length, map}
 use Rattle.std.specs.List.{AllByRecursion}
 use Rattle.ante_wrun.specs.Control.{instance_of}
-use Rattle.ante_wrun.specs.Instances.{given_functions}
-use Rattle.ante_wrun.specs.Assured.{Links}
+use Rattle.ante_wmeaning.specs.Instantiation.{given_functions}
+use Rattle.ante_wrun.specs.GrantedByValidity.{Links}
 use Rattle.ante_wrun.proofs.instance.given_functions.Given as goal
 
 abbrev pub invariant-imports : goal.invariant-imports

@@ -1,7 +1,7 @@
 use Rattle.std.proofs.Common.{sym, subst}
 use Rattle.std.specs.List.{AllByRecursion}
 use Rattle.ante_wtree.specs.Trees.{tree_of}
-use Rattle.ante_wrun.specs.Assured.{IsLiteral}
+use Rattle.ante_wrun.specs.GrantedByValidity.{IsLiteral}
 use Rattle.ante_wrun.proofs.Assured.{literal_elements, literal_segments}
 use Rattle.ante_wrun.proofs.instance.instantiate.Goals as goal
 

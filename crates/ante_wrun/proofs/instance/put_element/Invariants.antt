@@ -1,5 +1,5 @@
 use Rattle.std.proofs.Common.{◌≡◌, ◌+◌, ◌≤◌, length, map, Some}
-use Rattle.ante_wrun.specs.Instances.{placed, with_element}
+use Rattle.ante_wmeaning.specs.Instantiation.{placed, with_element}
 use Rattle.ante_wrun.proofs.instance.put_element.Given as goal
 
 abbrev pub invariant-functions : goal.invariant-functions

@@ -1,8 +1,8 @@
 use Rattle.std.proofs.Common.{◌≡◌, length, true}
 use Rattle.std.specs.Prelude.{fold}
 use Rattle.std.specs.List.{AllByRecursion}
-use Rattle.ante_wrun.specs.Instances.{with_element, elements_fit}
-use Rattle.ante_wrun.specs.Assured.{IsLiteral}
+use Rattle.ante_wmeaning.specs.Instantiation.{with_element, elements_fit}
+use Rattle.ante_wrun.specs.GrantedByValidity.{IsLiteral}
 use Rattle.ante_wrun.proofs.instance.put_elements.Given as goal
 
 abbrev pub invariant-elements : goal.invariant-elements

@@ -1,8 +1,8 @@
 use Rattle.std.proofs.Common.{◌≡◌, length, true}
 use Rattle.std.specs.Prelude.{fold}
 use Rattle.std.specs.List.{AllByRecursion}
-use Rattle.ante_wrun.specs.Instances.{with_segment, data_fits}
-use Rattle.ante_wrun.specs.Assured.{IsLiteral}
+use Rattle.ante_wmeaning.specs.Instantiation.{with_segment, data_fits}
+use Rattle.ante_wrun.specs.GrantedByValidity.{IsLiteral}
 use Rattle.ante_wrun.proofs.instance.put_segments.Given as goal
 
 abbrev pub invariant-segments : goal.invariant-segments

@@ -1,10 +1,11 @@
 use Rattle.std.proofs.Common.{sym, subst}
 use Rattle.ante_wtree.specs.Trees.{tree_of}
-use Rattle.ante_wrun.specs.Runs.{IsHosts, NotStuck}
-use Rattle.ante_wrun.specs.Machine.{state_of}
+use Rattle.ante_wmeaning.specs.RunEnds.{NotStuck}
+use Rattle.ante_wmeaning.specs.HostConditions.{IsHosts}
+use Rattle.ante_wrun.specs.ThreadStates.{state_of}
 use Rattle.ante_wrun.specs.Control.{program_of}
-use Rattle.ante_wrun.specs.Running.{apply_runs}
-use Rattle.ante_wrun.proofs.Reached.{apply_is_own}
+use Rattle.ante_wmeaning.specs.Invocation.{apply_runs}
+use Rattle.ante_wmeaning.proofs.Reached.{apply_is_own}
 use Rattle.ante_wrun.proofs.machine.call_apply.Goals as goal
 
 pub call_with-requires-clause-here : goal.call_with-requires-clause-here

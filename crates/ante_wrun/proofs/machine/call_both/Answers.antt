@@ -1,15 +1,20 @@
 use Rattle.std.proofs.Common.{◌≡◌, ℕ, ◌≤◌, List, Ok, refl, sym, ap, subst, arith}
 use Rattle.ante_wtree.specs.Trees.{tree_of}
-use Rattle.ante_wrun.specs.Meaning.{Program, Normal, and_then}
-use Rattle.ante_wrun.specs.Machine.{state_of}
+use Rattle.ante_wmeaning.specs.Configurations.{Program, Normal}
+use Rattle.ante_wmeaning.specs.Execution.{and_then}
+use Rattle.ante_wrun.specs.ThreadStates.{state_of}
 use Rattle.ante_wrun.specs.Control.{program_of}
-use Rattle.ante_wrun.specs.Runs.{past, MayCall, MayBelow, NotStuck}
-use Rattle.ante_wrun.specs.Instances.{apply_in}
-use Rattle.ante_wrun.specs.Running.{start_runs, apply_runs, both_run, RunAnswers, undisturbed}
-use Rattle.ante_wrun.specs.Parts.{OnReturn, CallLeads}
+use Rattle.ante_wmeaning.specs.Environment.{past}
+use Rattle.ante_wmeaning.specs.RunEnds.{NotStuck}
+use Rattle.ante_wmeaning.specs.HostConditions.{MayCall, MayBelow}
+use Rattle.ante_wmeaning.specs.Instantiation.{apply_in}
+use Rattle.ante_wmeaning.specs.Environment.{undisturbed}
+use Rattle.ante_wmeaning.specs.Invocation.{start_runs, apply_runs, both_run}
+use Rattle.ante_wmeaning.specs.RunEnds.{RunAnswers}
+use Rattle.ante_wrun.specs.InstanceAndCalls.{OnReturn, CallLeads}
 use Rattle.ante_wrun.proofs.Turning.{more_events}
-use Rattle.ante_wrun.proofs.Starts.{some_start}
-use Rattle.ante_wrun.proofs.Safe.{start_safe, apply_safe}
+use Rattle.ante_wmeaning.proofs.Starts.{some_start}
+use Rattle.ante_wmeaning.proofs.Safe.{start_safe, apply_safe}
 use Rattle.ante_wrun.proofs.machine.call_both.Goals as goal
 
 below_from : {W : Type 0} (allowed : W → ℕ → List ℕ → ℕ → Type 0) (P : Program) →
@@ -40,7 +45,7 @@ call_start-requires-clause-sound g c =
       undisturbed,
       (λ n. refl, λ n. refl, λ n. refl),
       subst (λ p. NotStuck (start_runs g.H.Host.meaning p m.start s)) (sym c.requires.program)
-          (start_safe g.H.Host.meaning g.H.Host.allowed m c.requires.valid c.requires.answers g.met.H.Host.keeps s c.requires.globals
+          (start_safe g.H.Host.meaning g.H.Host.allowed m c.requires.valid c.requires.answers g.met.H.Host.keeps g.met.H.Host.falls s c.requires.globals
           (subst (λ p. MayBelow g.H.Host.allowed p c.args.host.now c.args.left.now) c.requires.program (below_from g.H.Host.allowed P g.met.H.Host.lower c.args.host.now c.args.left.now c.requires.allowed))
           (subst (λ p. MayCall g.H.Host.allowed p c.args.host.now c.args.left.now) c.requires.program c.requires.allowed)).0,
     )
@@ -55,7 +60,7 @@ call_apply-requires-clause-sound g c =
     let t = state_of c.in-Returned.state c.call_start.new.host c.call_start.new.left c.call_start.new.last (past v.0 h.0) in
     let u = state_of c.in-Returned.state c.call_start.new.host c.call_start.new.left c.call_start.new.last undisturbed in
     let may = subst (λ p. MayBelow g.H.Host.allowed p c.args.host.now c.args.left.now) c.requires.program (below_from g.H.Host.allowed P g.met.H.Host.lower c.args.host.now c.args.left.now c.requires.allowed) in
-    let safe = start_safe g.H.Host.meaning g.H.Host.allowed m c.requires.valid c.requires.answers g.met.H.Host.keeps s c.requires.globals may
+    let safe = start_safe g.H.Host.meaning g.H.Host.allowed m c.requires.valid c.requires.answers g.met.H.Host.keeps g.met.H.Host.falls s c.requires.globals may
     (subst (λ p. MayCall g.H.Host.allowed p c.args.host.now c.args.left.now) c.requires.program c.requires.allowed) in
     let came = subst (λ x. CallLeads g.H.Host.stands (start_runs g.H.Host.meaning P m.start s) (Ok x) c.call_start.new.host c.call_start.new.left c.call_start.new.last (past v.0 h.0)) c.in-Returned.is (h.2 v.0 v.1) in
     let globals = safe.1 t (subst (λ p. start_runs g.H.Host.meaning p m.start s ≡ Normal t) c.requires.program came) in
@@ -64,5 +69,5 @@ call_apply-requires-clause-sound g c =
       undisturbed,
       (λ n. refl, λ n. refl, λ n. refl),
       subst (λ p. NotStuck (apply_runs g.H.Host.meaning p (apply_in m) c.args.args.now u)) (sym c.requires.program)
-          (apply_safe g.H.Host.meaning g.H.Host.allowed m c.requires.valid c.requires.answers g.met.H.Host.keeps c.args.args.now c.requires.arguments u globals later),
+          (apply_safe g.H.Host.meaning g.H.Host.allowed m c.requires.valid c.requires.answers g.met.H.Host.keeps g.met.H.Host.falls c.args.args.now c.requires.arguments u globals later),
     )

@@ -1,8 +1,8 @@
 use Rattle.std.proofs.Common.{[], refl, ap, subst}
-use Rattle.ante_wrun.specs.Machine.{state_of}
+use Rattle.ante_wrun.specs.ThreadStates.{state_of}
 use Rattle.ante_wrun.specs.Control.{program_of}
-use Rattle.ante_wrun.specs.Runs.{NotStuck}
-use Rattle.ante_wrun.specs.Running.{start_runs}
+use Rattle.ante_wmeaning.specs.RunEnds.{NotStuck}
+use Rattle.ante_wmeaning.specs.Invocation.{start_runs}
 use Rattle.ante_wrun.proofs.machine.call_start.Goals as goal
 
 pub returns-in-None-clause-leads : goal.returns-in-None-clause-leads

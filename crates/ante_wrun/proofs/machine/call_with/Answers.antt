@@ -1,12 +1,14 @@
 use Rattle.std.proofs.Common.{◌≡◌, Some, Ok, [], refl, ap, sym, subst, ◌∙◌}
 use Rattle.std.proofs.lemmas.Result.{err_from_is_err_and}
-use Rattle.ante_wrun.specs.declared.ends.RunEnd.TheVariants as end
-use Rattle.ante_wrun.specs.Meaning.{Normal, settled, call, invoked}
-use Rattle.ante_wrun.specs.Machine.{state_of}
+use Rattle.ante_wmeaning.specs.declared.ends.RunEnd.TheVariants as end
+use Rattle.ante_wmeaning.specs.Configurations.{Normal}
+use Rattle.ante_wmeaning.specs.Execution.{settled, call, invoked}
+use Rattle.ante_wrun.specs.ThreadStates.{state_of}
 use Rattle.ante_wrun.specs.Control.{program_of}
-use Rattle.ante_wrun.specs.Runs.{past, Wanting, Ends, Lacking, NotStuck}
-use Rattle.ante_wrun.specs.Turns.{RunLeads}
-use Rattle.ante_wrun.specs.Running.{most_frames, with_arguments, called_with}
+use Rattle.ante_wmeaning.specs.Environment.{past, Wanting}
+use Rattle.ante_wmeaning.specs.RunEnds.{Ends, Lacking, NotStuck}
+use Rattle.ante_wrun.specs.InstructionCycle.{RunLeads}
+use Rattle.ante_wmeaning.specs.Invocation.{most_frames, with_arguments, called_with}
 use Rattle.ante_wrun.proofs.Whole.{wanted_first, call_lacks, called_as, recalled}
 use Rattle.ante_wrun.proofs.machine.call_with.Goals as goal
 

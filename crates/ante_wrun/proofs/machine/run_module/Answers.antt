@@ -1,15 +1,16 @@
 use Rattle.std.proofs.Common.{[], ◌∷◌, length, refl, ap, subst, ◌∙◌}
 use Rattle.std.proofs.lemmas.List.{length-map}
 use Rattle.ante_wtree.specs.Trees.{tree_of}
-use Rattle.ante_wrun.specs.declared.ends.TrapKind.TheVariants as trap
-use Rattle.ante_wrun.specs.declared.ends.RunEnd.TheVariants as end
-use Rattle.ante_wrun.specs.Meaning.{after_item}
-use Rattle.ante_wrun.specs.Machine.{values_of}
+use Rattle.ante_wmeaning.specs.declared.ends.TrapKind.TheVariants as trap
+use Rattle.ante_wmeaning.specs.declared.ends.RunEnd.TheVariants as end
+use Rattle.ante_wmeaning.specs.Environment.{after_item}
+use Rattle.ante_wrun.specs.ThreadStates.{values_of}
 use Rattle.ante_wrun.specs.Control.{program_of}
-use Rattle.ante_wrun.specs.Runs.{Supplied, past, Ends}
-use Rattle.ante_wrun.specs.Instances.{constant}
-use Rattle.ante_wrun.specs.Running.{RunAnswers}
-use Rattle.ante_wrun.specs.Parts.{IsInstance}
+use Rattle.ante_wmeaning.specs.Environment.{Supplied, past}
+use Rattle.ante_wmeaning.specs.RunEnds.{Ends}
+use Rattle.ante_wmeaning.specs.Instantiation.{constant}
+use Rattle.ante_wmeaning.specs.RunEnds.{RunAnswers}
+use Rattle.ante_wrun.specs.InstanceAndCalls.{IsInstance}
 use Rattle.ante_wrun.proofs.Whole.{unfit, runs_as}
 use Rattle.ante_wrun.proofs.machine.run_module.Goals as goal
 

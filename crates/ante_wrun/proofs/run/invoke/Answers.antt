@@ -1,14 +1,18 @@
 use Rattle.std.proofs.Common.{◌≡◌, [], ◌∷◌, length, refl, sym, subst, ◌∙◌}
-use Rattle.ante_wrun.specs.declared.ends.RunEnd.TheVariants as end
-use Rattle.ante_wrun.specs.Effects.{popped}
-use Rattle.ante_wrun.specs.Meaning.{after_call, call, arguments, masked, on_stack}
-use Rattle.ante_wrun.specs.Machine.{state_of, going, after, rest_of}
+use Rattle.ante_wmeaning.specs.declared.ends.RunEnd.TheVariants as end
+use Rattle.ante_wmeaning.specs.PlainInstructions.{popped}
+use Rattle.ante_wmeaning.specs.Environment.{after_call, undisturbed}
+use Rattle.ante_wmeaning.specs.Configurations.{on_stack}
+use Rattle.ante_wmeaning.specs.ValueTypes.{masked}
+use Rattle.ante_wmeaning.specs.Execution.{call, arguments}
+use Rattle.ante_wrun.specs.ThreadStates.{state_of, going, after, rest_of}
 use Rattle.ante_wrun.specs.Control.{program_of, Leads, GivenAt}
-use Rattle.ante_wrun.specs.Runs.{CallSupplied, Wanting, Ends, Lacking, NotStuck}
-use Rattle.ante_wrun.specs.Turns.{RunLeads}
-use Rattle.ante_wrun.proofs.Turning.{sound_call, answered, more_events, invoke_by, outset, stops_ends, some_outside}
+use Rattle.ante_wmeaning.specs.Environment.{CallSupplied, Wanting}
+use Rattle.ante_wmeaning.specs.RunEnds.{Ends, Lacking, NotStuck}
+use Rattle.ante_wrun.specs.InstructionCycle.{RunLeads}
+use Rattle.ante_wrun.proofs.Turning.{sound_call, answered, more_events, invoke_by, outset, stops_ends}
 use Rattle.ante_wrun.proofs.Rules.{first_runs, inner, callable}
-use Rattle.ante_wrun.proofs.Masks.{masked_fit}
+use Rattle.ante_wmeaning.proofs.Arguments.{masked_fit}
 use Rattle.ante_wrun.proofs.run.invoke.Goals as goal
 
 pub returns-in-Ok-Go-clause-leads : goal.returns-in-Ok-Go-clause-leads
@@ -67,12 +71,12 @@ returns-in-Lacks-clause-leads g c =
 pub host_call-requires-clause-room : goal.host_call-requires-clause-room
 host_call-requires-clause-room g c =
     let P = program_of c.args.functions.now in
-    let h = subst (λ n. Leads g.H.Host.meaning P (after g.H.Host.meaning P c.args.thread.now (call g.H.Host.meaning P c.args.thread.now.free c.args.function (state_of c.args.thread.now.state c.args.host.now c.args.left.now c.args.last.now some_outside))) n c.call_function.new.thread c.args.host.now c.args.left.now c.args.last.now some_outside) c.in-Ok-HostCall.field-0-is (c.in-Ok-HostCall.ensures.leads c.args.host.now c.args.left.now c.args.last.now some_outside) in h.1
+    let h = subst (λ n. Leads g.H.Host.meaning P (after g.H.Host.meaning P c.args.thread.now (call g.H.Host.meaning P c.args.thread.now.free c.args.function (state_of c.args.thread.now.state c.args.host.now c.args.left.now c.args.last.now undisturbed))) n c.call_function.new.thread c.args.host.now c.args.left.now c.args.last.now undisturbed) c.in-Ok-HostCall.field-0-is (c.in-Ok-HostCall.ensures.leads c.args.host.now c.args.left.now c.args.last.now undisturbed) in h.1
 
 pub host_call-requires-clause-allowed : goal.host_call-requires-clause-allowed
 host_call-requires-clause-allowed g c =
     let P = program_of c.args.functions.now in
-    let h = subst (λ n. Leads g.H.Host.meaning P (after g.H.Host.meaning P c.args.thread.now (call g.H.Host.meaning P c.args.thread.now.free c.args.function (state_of c.args.thread.now.state c.args.host.now c.args.left.now c.args.last.now some_outside))) n c.call_function.new.thread c.args.host.now c.args.left.now c.args.last.now some_outside) c.in-Ok-HostCall.field-0-is (c.in-Ok-HostCall.ensures.leads c.args.host.now c.args.left.now c.args.last.now some_outside) in
+    let h = subst (λ n. Leads g.H.Host.meaning P (after g.H.Host.meaning P c.args.thread.now (call g.H.Host.meaning P c.args.thread.now.free c.args.function (state_of c.args.thread.now.state c.args.host.now c.args.left.now c.args.last.now undisturbed))) n c.call_function.new.thread c.args.host.now c.args.left.now c.args.last.now undisturbed) c.in-Ok-HostCall.field-0-is (c.in-Ok-HostCall.ensures.leads c.args.host.now c.args.left.now c.args.last.now undisturbed) in
     c.requires.here (c.in-Ok-HostCall.kind.now, c.in-Ok-HostCall.number, subst (GivenAt (program_of c.args.functions.now) c.args.function) c.in-Ok-HostCall.field-0-is c.in-Ok-HostCall.ensures.given) c.in-Ok-HostCall.kind.now c.in-Ok-HostCall.number (masked c.in-Ok-HostCall.kind.now.params (arguments (length c.in-Ok-HostCall.kind.now.params) (popped c.call_function.new.thread.state.values.stack))) h.2
     (masked_fit c.in-Ok-HostCall.kind.now.params c.call_function.new.thread.state.values.stack h.1)
 

@@ -1,10 +1,12 @@
 use Rattle.std.proofs.Common.{◌≡◌, Ok, ap, subst, arith}
-use Rattle.ante_wrun.specs.declared.ends.RunEnd.TheVariants as end
-use Rattle.ante_wrun.specs.Meaning.{Outside, Normal}
-use Rattle.ante_wrun.specs.Machine.{state_of, going}
+use Rattle.ante_wmeaning.specs.declared.ends.RunEnd.TheVariants as end
+use Rattle.ante_wmeaning.specs.Environment.{Environment}
+use Rattle.ante_wmeaning.specs.Configurations.{Normal}
+use Rattle.ante_wrun.specs.ThreadStates.{state_of, going}
 use Rattle.ante_wrun.specs.Control.{program_of}
-use Rattle.ante_wrun.specs.Runs.{Begins, past, ByEvents, Wanting, Ends, Lacking}
-use Rattle.ante_wrun.specs.Turns.{TurnLeads}
+use Rattle.ante_wmeaning.specs.Environment.{Begins, past, ByEvents, Wanting}
+use Rattle.ante_wmeaning.specs.RunEnds.{Ends, Lacking}
+use Rattle.ante_wrun.specs.InstructionCycle.{TurnLeads}
 use Rattle.ante_wrun.proofs.Turning.{more_events, stops_ends}
 use Rattle.ante_wrun.proofs.Stretching.{sound_after, then_quiet}
 use Rattle.ante_wrun.proofs.run.run_thread.Goals as goal
@@ -39,7 +41,7 @@ turns-preserved g c =
           (λ u. going g.H.Host.meaning P c.turns.thread (state_of c.turns.thread.state c.turns.host c.turns.left c.turns.last u))
           (λ o u. o ≡ going g.H.Host.meaning P c.run_stretch.new.thread (state_of c.run_stretch.new.thread.state c.turns.host c.run_stretch.new.left c.run_stretch.new.last u))
           c.turns.invariant.0 (c.in_default.ensures.leads P c.turns.host))
-          (subst (λ p. ByEvents g.P.Stop.may c.turns.stop c.turn.new.stop (λ events. (u : Outside) → Begins u events →
+          (subst (λ p. ByEvents g.P.Stop.may c.turns.stop c.turn.new.stop (λ events. (u : Environment) → Begins u events →
           TurnLeads g.H.Host.meaning g.H.Host.stands P (going g.H.Host.meaning P c.run_stretch.new.thread (state_of c.run_stretch.new.thread.state c.turns.host c.run_stretch.new.left c.run_stretch.new.last u)) (Ok p) c.turn.new.thread c.turn.new.host c.turn.new.left c.turn.new.last (past u events))) c.in-Ok-Go.field-0-is c.in-Ok-Go.ensures.leads),
       c.in-Ok-Go.ensures.allowed (ap Ok c.in-Ok-Go.field-0-is),
       c.in-Ok-Go.ensures.sound (ap Ok c.in-Ok-Go.field-0-is),
@@ -59,7 +61,7 @@ returns-in-Ok-Over-clause-leads g c =
     (λ u. going g.H.Host.meaning P c.turns.thread (state_of c.turns.thread.state c.turns.host c.turns.left c.turns.last u))
     (λ o u. o ≡ going g.H.Host.meaning P c.run_stretch.new.thread (state_of c.run_stretch.new.thread.state c.turns.host c.run_stretch.new.left c.run_stretch.new.last u))
     c.turns.invariant.0 (c.in_default.ensures.leads P c.turns.host))
-    (subst (λ p. ByEvents g.P.Stop.may c.turns.stop c.turn.new.stop (λ events. (u : Outside) → Begins u events →
+    (subst (λ p. ByEvents g.P.Stop.may c.turns.stop c.turn.new.stop (λ events. (u : Environment) → Begins u events →
     TurnLeads g.H.Host.meaning g.H.Host.stands P (going g.H.Host.meaning P c.run_stretch.new.thread (state_of c.run_stretch.new.thread.state c.turns.host c.run_stretch.new.left c.run_stretch.new.last u)) (Ok p) c.turn.new.thread c.turn.new.host c.turn.new.left c.turn.new.last (past u events))) c.in-Ok-Over.field-0-is c.in-Ok-Over.ensures.leads)
 
 pub returns-in-Ok-Ended-clause-leads : goal.returns-in-Ok-Ended-clause-leads
@@ -74,7 +76,7 @@ returns-in-Ok-Ended-clause-leads g c =
     (λ u. going g.H.Host.meaning P c.turns.thread (state_of c.turns.thread.state c.turns.host c.turns.left c.turns.last u))
     (λ o u. o ≡ going g.H.Host.meaning P c.run_stretch.new.thread (state_of c.run_stretch.new.thread.state c.turns.host c.run_stretch.new.left c.run_stretch.new.last u))
     c.turns.invariant.0 (c.in_default.ensures.leads P c.turns.host))
-    (subst (λ p. ByEvents g.P.Stop.may c.turns.stop c.turn.new.stop (λ events. (u : Outside) → Begins u events →
+    (subst (λ p. ByEvents g.P.Stop.may c.turns.stop c.turn.new.stop (λ events. (u : Environment) → Begins u events →
     TurnLeads g.H.Host.meaning g.H.Host.stands P (going g.H.Host.meaning P c.run_stretch.new.thread (state_of c.run_stretch.new.thread.state c.turns.host c.run_stretch.new.left c.run_stretch.new.last u)) (Ok p) c.turn.new.thread c.turn.new.host c.turn.new.left c.turn.new.last (past u events))) c.in-Ok-Ended.field-0-is c.in-Ok-Ended.ensures.leads)
 
 pub returns-in-Err-clause-leads : goal.returns-in-Err-clause-leads

@@ -1,14 +1,18 @@
 use Rattle.std.proofs.Common.{◌≡◌, ◌<◌, Some, [], ◌∷◌, length, refl, sym, subst, ◌∙◌, arith}
-use Rattle.ante_wrun.specs.declared.ends.RunEnd.TheVariants as end
-use Rattle.ante_wrun.specs.Effects.{popped}
-use Rattle.ante_wrun.specs.Meaning.{after_call, arguments, masked, on_stack}
-use Rattle.ante_wrun.specs.Machine.{state_of, whole, going, rest_of}
+use Rattle.ante_wmeaning.specs.declared.ends.RunEnd.TheVariants as end
+use Rattle.ante_wmeaning.specs.PlainInstructions.{popped}
+use Rattle.ante_wmeaning.specs.Environment.{after_call, undisturbed}
+use Rattle.ante_wmeaning.specs.Configurations.{on_stack}
+use Rattle.ante_wmeaning.specs.ValueTypes.{masked}
+use Rattle.ante_wmeaning.specs.Execution.{arguments}
+use Rattle.ante_wrun.specs.ThreadStates.{state_of, whole, going, rest_of}
 use Rattle.ante_wrun.specs.Control.{program_of, Leads}
-use Rattle.ante_wrun.specs.Runs.{CallSupplied, Wanting, Ends, Lacking, NotStuck}
-use Rattle.ante_wrun.proofs.Turning.{first_of, sound_turn, answered, turn_by, limit_by, cut_by, lack_by, stops_ends, some_outside}
+use Rattle.ante_wmeaning.specs.Environment.{CallSupplied, Wanting}
+use Rattle.ante_wmeaning.specs.RunEnds.{Ends, Lacking, NotStuck}
+use Rattle.ante_wrun.proofs.Turning.{first_of, sound_turn, answered, turn_by, limit_by, cut_by, lack_by, stops_ends}
 use Rattle.ante_wrun.proofs.Rules.{first_runs, inner}
-use Rattle.ante_wrun.proofs.Masks.{masked_fit}
-use Rattle.ante_wrun.specs.Turns.{MayLook}
+use Rattle.ante_wmeaning.proofs.Arguments.{masked_fit}
+use Rattle.ante_wrun.specs.InstructionCycle.{MayLook}
 use Rattle.ante_wrun.proofs.run.turn.Goals as goal
 
 pub returns-in-StepLimit-clause-leads : goal.returns-in-StepLimit-clause-leads
@@ -20,11 +24,6 @@ pub returns-in-Cut-clause-leads : goal.returns-in-Cut-clause-leads
 returns-in-Cut-clause-leads g c =
     let P = program_of c.args.functions.now in
     cut_by g.H.Host.meaning g.H.Host.stands P g.P.Stop.may c.args.stop.now c.pay.new.stop c.args.host.now c.args.thread.now c.next_instr.new.thread c.in-Some.instr c.args.left.now c.args.last.now (λ v. c.in-Some.ensures.finds P c.args.host.now c.args.left.now c.args.last.now v) c.pay.new.left c.in-Cut.at c.in-Cut.ensures.steps.0 c.in-Cut.ensures.steps.1 c.in-Cut.ensures.look
-
-pub returns-in-Cut-clause-cut : goal.returns-in-Cut-clause-cut
-returns-in-Cut-clause-cut g c = λ at e.
-    let is : c.in-Cut.at ≡ at = cc in
-    (c.args.stop.now, subst (λ n. g.P.Stop.may c.args.stop.now (Some n) c.pay.new.stop) is (subst (λ b. MayLook g.P.Stop.may b c.args.stop.now (Some c.in-Cut.at) c.pay.new.stop) c.in-Cut.ensures.steps.0 c.in-Cut.ensures.look))
 
 pub returns-in-None-clause-leads : goal.returns-in-None-clause-leads
 returns-in-None-clause-leads g c =
@@ -91,12 +90,12 @@ returns-in-Err-clause-leads g c =
 pub host_call-requires-clause-room : goal.host_call-requires-clause-room
 host_call-requires-clause-room g c =
     let P = program_of c.args.functions.now in
-    let h = subst (λ n. Leads g.H.Host.meaning P (whole g.H.Host.meaning P c.next_instr.new.thread (first_of g.H.Host.meaning P c.next_instr.new.thread c.in-Some.instr (state_of c.next_instr.new.thread.state c.args.host.now c.pay.new.left c.pay.new.last some_outside))) n c.act.new.thread c.args.host.now c.act.new.left c.pay.new.last some_outside) c.in-Ok-HostCall.field-0-is (c.in-Ok-HostCall.ensures.leads c.args.host.now c.pay.new.last some_outside) in h.1
+    let h = subst (λ n. Leads g.H.Host.meaning P (whole g.H.Host.meaning P c.next_instr.new.thread (first_of g.H.Host.meaning P c.next_instr.new.thread c.in-Some.instr (state_of c.next_instr.new.thread.state c.args.host.now c.pay.new.left c.pay.new.last undisturbed))) n c.act.new.thread c.args.host.now c.act.new.left c.pay.new.last undisturbed) c.in-Ok-HostCall.field-0-is (c.in-Ok-HostCall.ensures.leads c.args.host.now c.pay.new.last undisturbed) in h.1
 
 pub host_call-requires-clause-allowed : goal.host_call-requires-clause-allowed
 host_call-requires-clause-allowed g c =
     let P = program_of c.args.functions.now in
-    let h = subst (λ n. Leads g.H.Host.meaning P (whole g.H.Host.meaning P c.next_instr.new.thread (first_of g.H.Host.meaning P c.next_instr.new.thread c.in-Some.instr (state_of c.next_instr.new.thread.state c.args.host.now c.pay.new.left c.pay.new.last some_outside))) n c.act.new.thread c.args.host.now c.act.new.left c.pay.new.last some_outside) c.in-Ok-HostCall.field-0-is (c.in-Ok-HostCall.ensures.leads c.args.host.now c.pay.new.last some_outside) in
+    let h = subst (λ n. Leads g.H.Host.meaning P (whole g.H.Host.meaning P c.next_instr.new.thread (first_of g.H.Host.meaning P c.next_instr.new.thread c.in-Some.instr (state_of c.next_instr.new.thread.state c.args.host.now c.pay.new.left c.pay.new.last undisturbed))) n c.act.new.thread c.args.host.now c.act.new.left c.pay.new.last undisturbed) c.in-Ok-HostCall.field-0-is (c.in-Ok-HostCall.ensures.leads c.args.host.now c.pay.new.last undisturbed) in
     let less : c.act.new.left < c.args.left.now = omega (arith, c.in-Ok-HostCall.ensures.falls, c.in-Yes.ensures.steps.0) in
     c.requires.below c.act.new.left less c.in-Ok-HostCall.kind.now c.in-Ok-HostCall.number (masked c.in-Ok-HostCall.kind.now.params (arguments (length c.in-Ok-HostCall.kind.now.params) (popped c.act.new.thread.state.values.stack))) h.2
     (masked_fit c.in-Ok-HostCall.kind.now.params c.act.new.thread.state.values.stack h.1)

@@ -1,8 +1,8 @@
 use Rattle.std.proofs.Common.{◌≡◌, suc, ◌-◌, refl, ◌∙◌}
-use Rattle.ante_wrun.specs.declared.ends.RunEnd.TheVariants as end
-use Rattle.ante_wrun.specs.Control.{Stops}
-use Rattle.ante_wrun.specs.Machine.{goes, plain_of, values_in}
-use Rattle.ante_wrun.specs.Runs.{NotStuck}
+use Rattle.ante_wmeaning.specs.declared.ends.RunEnd.TheVariants as end
+use Rattle.ante_wmeaning.specs.RunEnds.{Stops}
+use Rattle.ante_wrun.specs.ThreadStates.{goes, plain_of, values_in}
+use Rattle.ante_wmeaning.specs.RunEnds.{NotStuck}
 use Rattle.ante_wrun.specs.Stretches.{stepping}
 use Rattle.ante_wrun.proofs.Plains.{untouched}
 use Rattle.ante_wrun.proofs.Stretching.{acting, done_leads, trap_leads, next_sound, ready_next, one_quiet, still}

@@ -1,10 +1,10 @@
 use Rattle.std.proofs.Common.{◌≡◌, ℕ, ◌+◌, ◌-◌, sym, ap, ◌∙◌, subst, arith}
-use Rattle.ante_wrun.specs.declared.ends.RunEnd.TheVariants as end
-use Rattle.ante_wrun.specs.Meaning.{Outside}
-use Rattle.ante_wrun.specs.Control.{Stops}
-use Rattle.ante_wrun.specs.Runs.{Begins, past}
-use Rattle.ante_wrun.specs.Machine.{goes}
-use Rattle.ante_wrun.specs.Stretches.{stepping, Quietly}
+use Rattle.ante_wmeaning.specs.declared.ends.RunEnd.TheVariants as end
+use Rattle.ante_wmeaning.specs.Environment.{Environment}
+use Rattle.ante_wmeaning.specs.RunEnds.{Stops}
+use Rattle.ante_wmeaning.specs.Environment.{Begins, past}
+use Rattle.ante_wrun.specs.ThreadStates.{goes}
+use Rattle.ante_wrun.specs.Stretches.{stepping, WithoutLooks}
 use Rattle.ante_wrun.proofs.Stretching.{more_quiet, same_sound, quiet_from, sound_after, in_round, one_more, stayed}
 use Rattle.ante_wrun.proofs.stretch.run_code.Goals as goal
 
@@ -33,16 +33,16 @@ instructions-preserved g c =
     let l = c.instructions in
     let new = c.advance.new in (
       λ program w free left le.
-          let at = λ (k : ℕ) (u : Outside). goes g.H.Host.meaning program free new.frames c.in-To.code.now new.values (stepping new.values new.globals.items new.memory w k u) in
-          let now = λ (u : Outside). goes g.H.Host.meaning program free l.frames l.rest.now l.values (stepping l.values l.globals.items l.memory w (left - l.steps) u) in
-          let then' = λ (u : Outside). goes g.H.Host.meaning program free c.after_blocks-rest.new.frames c.after_blocks-rest.result.now l.values (stepping l.values l.globals.items l.memory w (left - l.steps) u) in
+          let at = λ (k : ℕ) (u : Environment). goes g.H.Host.meaning program free new.frames c.in-To.code.now new.values (stepping new.values new.globals.items new.memory w k u) in
+          let now = λ (u : Environment). goes g.H.Host.meaning program free l.frames l.rest.now l.values (stepping l.values l.globals.items l.memory w (left - l.steps) u) in
+          let then' = λ (u : Environment). goes g.H.Host.meaning program free c.after_blocks-rest.new.frames c.after_blocks-rest.result.now l.values (stepping l.values l.globals.items l.memory w (left - l.steps) u) in
           more_quiet
           (λ v. goes g.H.Host.meaning program free c.args.frames.now c.args.code.now c.args.values.now (stepping c.args.values.now c.args.globals.now.items c.args.memory.now w left v))
           now (λ o u. o ≡ at (left - (l.steps + 1)) u)
           (l.invariant.0 program w free left le)
           (quiet_from now then' (λ o u. o ≡ at (left - (l.steps + 1)) u)
           (λ u. c.after_blocks-rest.ensures.same program free l.values (stepping l.values l.globals.items l.memory w (left - l.steps) u))
-          (subst (λ k. Quietly (λ events. (u : Outside) → Begins u events → then' u ≡ at k (past u events))) (one_more left c.args.most l.steps le c.instructions-test.true)
+          (subst (λ k. WithoutLooks (λ events. (u : Environment) → Begins u events → then' u ≡ at k (past u events))) (one_more left c.args.most l.steps le c.instructions-test.true)
           (c.in-To.ensures.leads program w free (left - l.steps) (in_round left c.args.most l.steps le c.instructions-test.true)))),
       omega (arith, c.instructions-test.true),
       c.advance.ensures.below ∙ l.invariant.2,
@@ -52,15 +52,15 @@ instructions-preserved g c =
 pub returns-in-Trap-clause-leads : goal.returns-in-Trap-clause-leads
 returns-in-Trap-clause-leads g c = λ program w free left le.
     let l = c.instructions in
-    let now = λ (u : Outside). goes g.H.Host.meaning program free l.frames l.rest.now l.values (stepping l.values l.globals.items l.memory w (left - l.steps) u) in
-    let then' = λ (u : Outside). goes g.H.Host.meaning program free c.after_blocks-rest.new.frames c.after_blocks-rest.result.now l.values (stepping l.values l.globals.items l.memory w (left - l.steps) u) in
+    let now = λ (u : Environment). goes g.H.Host.meaning program free l.frames l.rest.now l.values (stepping l.values l.globals.items l.memory w (left - l.steps) u) in
+    let then' = λ (u : Environment). goes g.H.Host.meaning program free c.after_blocks-rest.new.frames c.after_blocks-rest.result.now l.values (stepping l.values l.globals.items l.memory w (left - l.steps) u) in
     more_quiet
     (λ v. goes g.H.Host.meaning program free c.args.frames.now c.args.code.now c.args.values.now (stepping c.args.values.now c.args.globals.now.items c.args.memory.now w left v))
     now (λ o u. Stops (end.Trap c.in-Trap.kind) w (left - (l.steps + 1)) u o)
     (l.invariant.0 program w free left le)
     (quiet_from now then' (λ o u. Stops (end.Trap c.in-Trap.kind) w (left - (l.steps + 1)) u o)
     (λ u. c.after_blocks-rest.ensures.same program free l.values (stepping l.values l.globals.items l.memory w (left - l.steps) u))
-    (subst (λ k. Quietly (λ events. (u : Outside) → Begins u events → Stops (end.Trap c.in-Trap.kind) w k (past u events) (then' u))) (one_more left c.args.most l.steps le c.instructions-test.true)
+    (subst (λ k. WithoutLooks (λ events. (u : Environment) → Begins u events → Stops (end.Trap c.in-Trap.kind) w k (past u events) (then' u))) (one_more left c.args.most l.steps le c.instructions-test.true)
     (c.in-Trap.ensures.leads program w free (left - l.steps) (in_round left c.args.most l.steps le c.instructions-test.true))))
 
 pub returns-in-Trap-clause-nested : goal.returns-in-Trap-clause-nested
@@ -74,11 +74,11 @@ returns-in-Stays-clause-leads g c = λ program w free left le.
     let l = c.instructions in
     let new = c.advance.new in
     let still = c.advance.ensures.undone c.in-Stays.is in
-    let same = λ (u : Outside). c.after_blocks-rest.ensures.same program free l.values (stepping l.values l.globals.items l.memory w (left - l.steps) u)
+    let same = λ (u : Environment). c.after_blocks-rest.ensures.same program free l.values (stepping l.values l.globals.items l.memory w (left - l.steps) u)
     ∙ ap (λ fs. goes g.H.Host.meaning program free fs c.after_blocks-rest.result.now l.values (stepping l.values l.globals.items l.memory w (left - l.steps) u)) (sym still.3) in
     let h = l.invariant.0 program w free left le in
     stayed l.values new.values l.globals.items new.globals.items l.memory new.memory (still.0, still.1, still.2)
-    (λ v globals memory. Quietly (λ events. (outside : Outside) → Begins outside events →
-    goes g.H.Host.meaning program free c.args.frames.now c.args.code.now c.args.values.now (stepping c.args.values.now c.args.globals.now.items c.args.memory.now w left outside)
-    ≡ goes g.H.Host.meaning program free new.frames c.after_blocks-rest.result.now v (stepping v globals memory w (left - l.steps) (past outside events))))
+    (λ v globals memory. WithoutLooks (λ events. (environment : Environment) → Begins environment events →
+    goes g.H.Host.meaning program free c.args.frames.now c.args.code.now c.args.values.now (stepping c.args.values.now c.args.globals.now.items c.args.memory.now w left environment)
+    ≡ goes g.H.Host.meaning program free new.frames c.after_blocks-rest.result.now v (stepping v globals memory w (left - l.steps) (past environment events))))
     (h.0, λ o b. h.1 o b ∙ same _)

@@ -1,7 +1,7 @@
 use Rattle.std.proofs.Common.{◌≡◌, suc, ◌-◌, sym, subst, ap, ◌∙◌, arith}
-use Rattle.ante_wrun.specs.Meaning.{Outside}
-use Rattle.ante_wrun.specs.Machine.{goes, state_of, going}
-use Rattle.ante_wrun.specs.Runs.{Sound}
+use Rattle.ante_wmeaning.specs.Environment.{Environment}
+use Rattle.ante_wrun.specs.ThreadStates.{goes, state_of, going}
+use Rattle.ante_wmeaning.specs.RunEnds.{Sound}
 use Rattle.ante_wrun.specs.Stretches.{stepping}
 use Rattle.ante_wrun.proofs.Stretching.{as_thread}
 use Rattle.ante_wrun.proofs.stretch.run_stretch.Goals as goal
@@ -29,7 +29,7 @@ returns-clause-leads g c = λ program w.
     let one : c.args.last.now ≡ suc left = omega (arith, c.if-last-left.false, c.if-last-left-gt1.false) in
     let few = c.run_code-done.ensures.few in
     let last : c.args.last.now - done.steps ≡ suc (left - done.steps) = omega (arith, one, few) in
-    let same = λ (o : Outside). ap (λ n. going g.H.Host.meaning program t (state_of t.state w left n o)) one
+    let same = λ (o : Environment). ap (λ n. going g.H.Host.meaning program t (state_of t.state w left n o)) one
     ∙ ap (λ v. goes g.H.Host.meaning program t.free t.frames t.code.now v (stepping v t.state.globals.items t.state.memory w left o)) (sym c.replace-values.ensures.value) in
     let h = c.run_code-done.ensures.leads program w t.free left (omega arith) in (
       h.0,

@@ -1,6 +1,6 @@
 use Rattle.std.proofs.Common.{ℕ, ◌∷◌, ap, ◌∙◌}
 use Rattle.ante_wrun.specs.Frames.{FrameValues}
-use Rattle.ante_wrun.specs.Effects.{popped}
+use Rattle.ante_wmeaning.specs.PlainInstructions.{popped}
 use Rattle.ante_wrun.proofs.Regions.{kept_answer}
 use Rattle.ante_wrun.proofs.values.ValueStack.answer.Goals as goal
 

@@ -1,0 +1,13 @@
+pub mod Outcomes
+pub mod Falls
+pub mod Likeness
+pub mod Looking
+pub mod Arguments
+pub mod Counts
+pub mod Soundness
+pub mod Starts
+pub mod Reached
+pub mod Programs
+pub mod Safe
+pub mod GivenTypes
+pub mod Answered

@@ -1,5 +1,0 @@
-use Rattle.ante_wrun.proofs.Safe.{whole_safe}
-use Rattle.ante_wrun.proofs.laws.never_stuck.Goals as goal
-
-pub returns : goal.returns
-returns g c = λ m args w left outside valid n may answers. whole_safe g.H.Host.meaning g.H.Host.allowed m valid answers g.met.H.Host.keeps g.met.H.Host.lower args n w left outside may
