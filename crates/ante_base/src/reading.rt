@@ -18,6 +18,7 @@ pub enum Exact {
 }
 
 /// Reads an input of any length in exact counts, and holds no more of it than the bytes of one count.
+#[derive(Drop)]
 pub struct Reading<'a, R> {
     source: &'a mut R,
     place: u64,

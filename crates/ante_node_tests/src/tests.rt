@@ -126,8 +126,7 @@ fn next<R: Source>(
     alloc: Global,
     reading: &mut Reading<'_, R>,
     count: usize,
-) -> Result<(usize, bool), Fail>
-{
+) -> Result<(usize, bool), Fail> {
     if count > 8 || reading.place() > 8 {
         return Ok((0, false));
     }
@@ -142,7 +141,12 @@ fn exact_counts_have_their_places(rt: HostRuntime) -> Result<(), Fail> {
     let alloc = rt.alloc();
     let mut files = source(alloc, "abcdefg", Vec::new(alloc))?;
     let mut reading = Reading::new(&mut files);
-    for (count, found, whole, place) in [(4, 4, true, 4), (0, 0, true, 4), (5, 3, false, 7), (1, 0, false, 7)] {
+    for (count, found, whole, place) in [
+        (4, 4, true, 4),
+        (0, 0, true, 4),
+        (5, 3, false, 7),
+        (1, 0, false, 7),
+    ] {
         assert_eq!(rt; next(alloc, &mut reading, count)?, (found, whole));
         assert_eq!(rt; reading.place(), place);
     }
