@@ -2,3 +2,4 @@ mod Numbered
 mod Iterated
 mod Indexed
 mod Called
+pub mod Replies
