@@ -7,3 +7,4 @@ pub mod Exact
 pub mod Memory
 pub mod Stops
 pub mod LookCounts
+pub mod Clocks

@@ -1,0 +1,4 @@
+-- Read Watching, what looks at the pool and the clock make of a seat; then Reads, what a reader brings back.
+pub mod Watching
+pub mod Stops
+pub mod Reads

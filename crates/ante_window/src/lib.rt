@@ -1,0 +1,10 @@
+//! Windows in which readers run jobs on a state that is lent to them.
+#![tactic(auto)]
+
+mod outcome;
+mod pool_stop;
+mod reader;
+
+pub use outcome::{Entry, Outcome};
+pub use pool_stop::PoolStop;
+pub use reader::{Brought, Window, read_alone};

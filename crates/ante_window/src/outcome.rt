@@ -1,0 +1,18 @@
+/// What a job in a window came to.
+#[derive(Clone, Debug, Drop, PartialEq, Eq)]
+pub enum Outcome<R> {
+    /// Its reply.
+    Done(R),
+    /// It was cut at this moment, or never claimed, and waits again.
+    Back { at: u64 },
+    /// It lacked memory.
+    OutOfMemory,
+}
+
+/// A job that a reader claimed, and what it came to.
+#[derive(Debug, Drop)]
+pub struct Entry<R> {
+    pub job: u32,
+    pub reader: u32,
+    pub outcome: Outcome<R>,
+}
