@@ -2,12 +2,13 @@
 use Rattle.std.proofs.Common.{◌≡◌, ℕ, suc, ◌+◌, ◌-◌, ◌<◌, ◌≤◌, List, [], ◌∷◌, ◌++◌, map, replicate, sym, ap, ◌∙◌, append-nil, arith}
 use Rattle.std.specs.Prelude.{slice_get}
 use Rattle.std.proofs.lemmas.List.{map-append}
+use Rattle.ante_wtree.specs.Limits.{most_locals}
 use Rattle.ante_wtree.specs.declared.instructions.ValueKind.{ValueKind}
 use Rattle.ante_wtree.specs.declared.modules.FuncType.{FuncType}
 use Rattle.ante_wtree.specs.declared.modules.Code.{Code}
 use Rattle.ante_wtree.specs.Trees.{Body, body_of}
 use Rattle.ante_wdecode.specs.declared.fault.Unread.{Unread}
-use Rattle.ante_wdecode.specs.Integers.{◌>>=◌}
+use Rattle.ante_wdecode.specs.Leb128.{◌>>=◌}
 use Rattle.ante_wdecode.specs.Rules.{Read, Fails, limited}
 use Rattle.ante_wdecode.specs.Opcodes.{value_type}
 use Rattle.ante_wdecode.specs.Modules.{groups, code, params_of, codes}
@@ -54,7 +55,7 @@ groups_done front left count counter rest whole le h =
 -- ---- bodies
 
 abbrev pub most_of : List FuncType → ℕ → ℕ
-most_of types n = 4096 - params_of (slice_get types n)
+most_of types n = most_locals - params_of (slice_get types n)
 
 abbrev rest_of : List FuncType → List ℕ → Body × List ℕ → Read (List Body)
 rest_of types ns b = (codes types ns).read b.1 >>= λ m. ok (b.0 ∷ m.0) m.1

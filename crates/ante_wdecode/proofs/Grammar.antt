@@ -7,13 +7,13 @@ use Rattle.ante_wtree.specs.declared.instructions.ValueKind.TheVariants.{I32, I6
 use Rattle.ante_wtree.specs.declared.instructions.PlainInstr.TheVariants as plain
 use Rattle.ante_wtree.specs.Expressions.{Expression, Over, Plain, Block, Loop, If, Br, BrIf, BrTable, Return, Call, CallIndirect, MemoryGrow}
 use Rattle.ante_wdecode.specs.declared.fault.DecodeKind.TheVariants as kind
-use Rattle.ante_wdecode.specs.declared.opcodes.Lead.{Lead}
-use Rattle.ante_wdecode.specs.declared.opcodes.Lead.TheVariants as lead
-use Rattle.ante_wdecode.specs.Integers.{◌>>=◌}
+use Rattle.ante_wdecode.specs.declared.opcodes.Opcode.{Opcode}
+use Rattle.ante_wdecode.specs.declared.opcodes.Opcode.TheVariants as opcode
+use Rattle.ante_wdecode.specs.Leb128.{◌>>=◌}
 use Rattle.ante_wdecode.specs.Rules.{Fault, Ended, At, Read, among}
-use Rattle.ante_wdecode.specs.Opcodes.{Leads, opcode}
+use Rattle.ante_wdecode.specs.Opcodes.{IsOpcodeOf, an_opcode}
 use Rattle.ante_wdecode.specs.Instructions.{Before, completes, IsSingle, indexed_of, kind_byte, block_types, block_type, Spells, IsExpression}
-use Rattle.ante_wdecode.specs.Reading.{Sequence, Item, Ends, One, closed, body_at, block_of, block_at, second_at, if_at, deeper, one, led_at, item_at, go_on, inside, seq_at, expression}
+use Rattle.ante_wdecode.specs.NestedInstructions.{Sequence, Item, Ends, One, closed, body_at, block_of, block_at, second_at, if_at, deeper, one, led_at, item_at, go_on, inside, seq_at, expression}
 use Rattle.ante_wdecode.proofs.Lebs.{bind_ok, chosen, ok_is}
 use Rattle.ante_wdecode.proofs.Laws.{Placed, IsExact, bind_err, err_is, further}
 use Rattle.ante_wdecode.proofs.Values.{exact_opcode, exact_block_type, exact_completes}
@@ -21,17 +21,17 @@ use Rattle.ante_wdecode.proofs.Values.{exact_opcode, exact_block_type, exact_com
 abbrev pub Make : Type 0
 Make = Expression → Expression
 
-abbrev pub term : Bool → Lead
-term true = lead.Else
-term false = lead.End
+abbrev pub term : Bool → Opcode
+term true = opcode.Else
+term false = opcode.End
 
 -- an item and the bytes after it, of these bytes
 abbrev pub Of : ℕ → List ℕ → Item → List ℕ → Type 0
-Of d bytes (Ends e) rest = (b : ℕ) × Leads b (term e) × (bytes ≡ b ∷ rest)
+Of d bytes (Ends e) rest = (b : ℕ) × IsOpcodeOf b (term e) × (bytes ≡ b ∷ rest)
 Of d bytes (One make) rest = (b : ℕ) × (a : List ℕ) × (bytes ≡ b ∷ (a ++ rest)) × ((c : Expression) (y : List ℕ) → Spells d c y → Spells d (make c) (b ∷ (a ++ y)))
 
 abbrev pub SeqOf : ℕ → List ℕ → Sequence → Type 0
-SeqOf d bytes s = (a : List ℕ) × (b : ℕ) × Spells d s.0 a × Leads b (term s.1) × (bytes ≡ a ++ b ∷ s.2)
+SeqOf d bytes s = (a : List ℕ) × (b : ℕ) × Spells d s.0 a × IsOpcodeOf b (term s.1) × (bytes ≡ a ++ b ∷ s.2)
 
 abbrev InnerOf : ℕ → List ℕ → Sequence → Type 0
 InnerOf zero bytes s = ⊥
@@ -74,28 +74,28 @@ kind_shorter bytes k rest h = omega (arith, ap length (kind_found bytes (k, rest
 as_made : (d : ℕ) (made make : Make) → make ≡ made → ((c : Expression) (bytes : List ℕ) → Before (IsSingle made) (Spells d c) bytes → Spells d (made c) bytes) → (c : Expression) (bytes : List ℕ) → Before (IsSingle make) (Spells d c) bytes → Spells d (make c) bytes
 as_made d made make e f c bytes z = subst (λ (m : Make). Spells d (m c) bytes) (sym e) (f c bytes (subst (λ (m : Make). Before (IsSingle m) (Spells d c) bytes) e z))
 
-made_by : (d : ℕ) (l : Lead) (front : List ℕ) (make : Make) → (completes l).Spells make front → (c : Expression) (bytes : List ℕ) → Before (IsSingle make) (Spells d c) bytes → Spells d (make c) bytes
-made_by d (lead.Fixed i) front make h = as_made d (Plain i) make h.0 (λ c bytes z. z)
-made_by d (lead.Indexed x) front make h = as_made d (Plain (indexed_of x h.0)) make h.4.0 (λ c bytes z. z)
-made_by d (lead.Load k) front make h = as_made d (Plain (plain.Load k h.0)) make h.4.0 (λ c bytes z. z)
-made_by d (lead.Store k) front make h = as_made d (Plain (plain.Store k h.0)) make h.4.0 (λ c bytes z. z)
-made_by d lead.MemorySize front make h = as_made d (Plain plain.MemorySize) make h.4.0 (λ c bytes z. z)
-made_by d lead.MemoryGrow front make h = as_made d MemoryGrow make h.4.0 (λ c bytes z. z)
-made_by d lead.I32Const front make h = as_made d (Plain (plain.I32Const h.0)) make h.4.0 (λ c bytes z. z)
-made_by d lead.I64Const front make h = as_made d (Plain (plain.I64Const h.0)) make h.4.0 (λ c bytes z. z)
-made_by d lead.Br front make h = as_made d (Br h.0) make h.4.0 (λ c bytes z. z)
-made_by d lead.BrIf front make h = as_made d (BrIf h.0) make h.4.0 (λ c bytes z. z)
-made_by d lead.BrTable front make h = let g = h.4 in as_made d (BrTable h.0 g.0) make g.4.0 (λ c bytes z. z)
-made_by d lead.Return front make h = as_made d Return make h.0 (λ c bytes z. z)
-made_by d lead.Call front make h = as_made d (Call h.0) make h.4.0 (λ c bytes z. z)
-made_by d lead.CallIndirect front make h = let g = h.4 in as_made d (CallIndirect h.0) make g.4.0 (λ c bytes z. z)
-made_by d lead.Block front make h = absurd h
-made_by d lead.Loop front make h = absurd h
-made_by d lead.If front make h = absurd h
-made_by d lead.Else front make h = absurd h
-made_by d lead.End front make h = absurd h
+made_by : (d : ℕ) (l : Opcode) (front : List ℕ) (make : Make) → (completes l).Spells make front → (c : Expression) (bytes : List ℕ) → Before (IsSingle make) (Spells d c) bytes → Spells d (make c) bytes
+made_by d (opcode.Fixed i) front make h = as_made d (Plain i) make h.0 (λ c bytes z. z)
+made_by d (opcode.Indexed x) front make h = as_made d (Plain (indexed_of x h.0)) make h.4.0 (λ c bytes z. z)
+made_by d (opcode.Load k) front make h = as_made d (Plain (plain.Load k h.0)) make h.4.0 (λ c bytes z. z)
+made_by d (opcode.Store k) front make h = as_made d (Plain (plain.Store k h.0)) make h.4.0 (λ c bytes z. z)
+made_by d opcode.MemorySize front make h = as_made d (Plain plain.MemorySize) make h.4.0 (λ c bytes z. z)
+made_by d opcode.MemoryGrow front make h = as_made d MemoryGrow make h.4.0 (λ c bytes z. z)
+made_by d opcode.I32Const front make h = as_made d (Plain (plain.I32Const h.0)) make h.4.0 (λ c bytes z. z)
+made_by d opcode.I64Const front make h = as_made d (Plain (plain.I64Const h.0)) make h.4.0 (λ c bytes z. z)
+made_by d opcode.Br front make h = as_made d (Br h.0) make h.4.0 (λ c bytes z. z)
+made_by d opcode.BrIf front make h = as_made d (BrIf h.0) make h.4.0 (λ c bytes z. z)
+made_by d opcode.BrTable front make h = let g = h.4 in as_made d (BrTable h.0 g.0) make g.4.0 (λ c bytes z. z)
+made_by d opcode.Return front make h = as_made d Return make h.0 (λ c bytes z. z)
+made_by d opcode.Call front make h = as_made d (Call h.0) make h.4.0 (λ c bytes z. z)
+made_by d opcode.CallIndirect front make h = let g = h.4 in as_made d (CallIndirect h.0) make g.4.0 (λ c bytes z. z)
+made_by d opcode.Block front make h = absurd h
+made_by d opcode.Loop front make h = absurd h
+made_by d opcode.If front make h = absurd h
+made_by d opcode.Else front make h = absurd h
+made_by d opcode.End front make h = absurd h
 
-single_spells : (d : ℕ) (l : Lead) (b : ℕ) (front : List ℕ) (make : Make) → Leads b l → (completes l).Spells make front → (c : Expression) (y : List ℕ) → Spells d c y → Spells d (make c) (b ∷ (front ++ y))
+single_spells : (d : ℕ) (l : Opcode) (b : ℕ) (front : List ℕ) (make : Make) → IsOpcodeOf b l → (completes l).Spells make front → (c : Expression) (y : List ℕ) → Spells d c y → Spells d (make c) (b ∷ (front ++ y))
 single_spells d l b front make k h c y s =
     let i : IsSingle make (b ∷ front) = (l, b ∷ [], front, (b, k, refl), h, refl) in
     made_by d l front make h c (b ∷ (front ++ y)) (b ∷ front, y, i, s, refl)
@@ -103,7 +103,7 @@ single_spells d l b front make k h c y s =
 abbrev made : Make → List ℕ → Read Make
 made make rest = Ok (make, rest)
 
-single_of : (d : ℕ) (l : Lead) (b : ℕ) (bytes : List ℕ) (x : Item × List ℕ) → Leads b l → ((completes l).read bytes >>= one) ≡ Ok x → Of d (b ∷ bytes) x.0 x.1
+single_of : (d : ℕ) (l : Opcode) (b : ℕ) (bytes : List ℕ) (x : Item × List ℕ) → IsOpcodeOf b l → ((completes l).read bytes >>= one) ≡ Ok x → Of d (b ∷ bytes) x.0 x.1
 single_of d l b bytes x k h =
     let r = bind_ok ((completes l).read bytes) one x h in
     let f = (exact_completes l).reads.found bytes r.0 r.1 in
@@ -117,7 +117,7 @@ abbrev Inner : ℕ → (List ℕ → Result Sequence Fault) → Type 0
 Inner d inner = (y : List ℕ) (s : Sequence) → inner y ≡ Ok s → InnerOf d y s
 
 body_found : (d : ℕ) (read : List ℕ → Result Sequence Fault) → ((y : List ℕ) (s : Sequence) → read y ≡ Ok s → SeqOf d y s) → (bytes : List ℕ) (x : Expression × List ℕ) → body_at read bytes ≡ Ok x →
-    (a : List ℕ) × (b : ℕ) × Spells d x.0 a × Leads b lead.End × (bytes ≡ a ++ b ∷ x.1)
+    (a : List ℕ) × (b : ℕ) × Spells d x.0 a × IsOpcodeOf b opcode.End × (bytes ≡ a ++ b ∷ x.1)
 body_found d read f bytes x h =
     let s = bind_ok (read bytes) closed x h in
     ended s.0 (f bytes s.0 s.1) s.2
@@ -125,20 +125,20 @@ body_found d read f bytes x h =
     never : {e : Fault} → Err e ≡ Ok x → ⊥
     never e = cc
 
-    ended : (s : Sequence) → SeqOf d bytes s → closed s ≡ Ok x → (a : List ℕ) × (b : ℕ) × Spells d x.0 a × Leads b lead.End × (bytes ≡ a ++ b ∷ x.1)
+    ended : (s : Sequence) → SeqOf d bytes s → closed s ≡ Ok x → (a : List ℕ) × (b : ℕ) × Spells d x.0 a × IsOpcodeOf b opcode.End × (bytes ≡ a ++ b ∷ x.1)
     ended (e, true, rest) o k = absurd (never k)
-    ended (e, false, rest) o k = subst (λ (z : Expression × List ℕ). (a : List ℕ) × (b : ℕ) × Spells d z.0 a × Leads b lead.End × (bytes ≡ a ++ b ∷ z.1)) (ok_is (e, rest) x k) o
+    ended (e, false, rest) o k = subst (λ (z : Expression × List ℕ). (a : List ℕ) × (b : ℕ) × Spells d z.0 a × IsOpcodeOf b opcode.End × (bytes ≡ a ++ b ∷ z.1)) (ok_is (e, rest) x k) o
 
-abbrev pub block_lead : Bool → Lead
-block_lead true = lead.Loop
-block_lead false = lead.Block
+abbrev pub block_opcode : Bool → Opcode
+block_opcode true = opcode.Loop
+block_opcode false = opcode.Block
 
-block_spells : (d : ℕ) (looped : Bool) (b e : ℕ) (kind : Option ValueKind) (body : Expression) (a : List ℕ) → Leads b (block_lead looped) → Leads e lead.End → Spells d body a →
+block_spells : (d : ℕ) (looped : Bool) (b e : ℕ) (kind : Option ValueKind) (body : Expression) (a : List ℕ) → IsOpcodeOf b (block_opcode looped) → IsOpcodeOf e opcode.End → Spells d body a →
     (c : Expression) (y : List ℕ) → Spells (suc d) c y → Spells (suc d) (block_of looped kind body c) (b ∷ (kind_byte kind ∷ (a ++ e ∷ []) ++ y))
 block_spells d true b e kind body a k l s c y h = (b ∷ kind_byte kind ∷ (a ++ e ∷ []), y, (b, e, a, k, l, s, refl), h, refl)
 block_spells d false b e kind body a k l s c y h = (b ∷ kind_byte kind ∷ (a ++ e ∷ []), y, (b, e, a, k, l, s, refl), h, refl)
 
-block_found : (d : ℕ) (inner : List ℕ → Result Sequence Fault) → Inner d inner → (looped : Bool) (b : ℕ) (bytes : List ℕ) (x : Make × List ℕ) → Leads b (block_lead looped) → deeper d bytes (block_at (block_of looped) inner bytes) ≡ Ok x → Of d (b ∷ bytes) (One x.0) x.1
+block_found : (d : ℕ) (inner : List ℕ → Result Sequence Fault) → Inner d inner → (looped : Bool) (b : ℕ) (bytes : List ℕ) (x : Make × List ℕ) → IsOpcodeOf b (block_opcode looped) → deeper d bytes (block_at (block_of looped) inner bytes) ≡ Ok x → Of d (b ∷ bytes) (One x.0) x.1
 block_found zero inner f looped b bytes x k h = absurd cc
 block_found (suc d) inner f looped b bytes x k h =
     let q = bind_ok (block_type.read bytes) (λ k. body_at inner k.1 >>= λ b. made (block_of looped k.0 b.0) b.1) x h in
@@ -148,7 +148,7 @@ block_found (suc d) inner f looped b bytes x k h =
     let o : Of (suc d) (b ∷ bytes) (One (block_of looped q.0.0 r.0.0)) r.0.1 = (b, kind_byte q.0.0 ∷ (g.0 ++ g.1 ∷ []), ap (λ (z : List ℕ). b ∷ z) split, block_spells d looped b g.1 q.0.0 r.0.0 g.0 k g.3 g.2) in
     subst (λ (z : Make × List ℕ). Of (suc d) (b ∷ bytes) (One z.0) z.1) (ok_is (block_of looped q.0.0 r.0.0, r.0.1) x r.2) o
 
-second_found : (d : ℕ) (inner : List ℕ → Result Sequence Fault) → Inner (suc d) inner → (b : ℕ) (bytes : List ℕ) (kind : Option ValueKind) (y : List ℕ) (x : Make × List ℕ) → Leads b lead.If → bytes ≡ kind_byte kind ∷ y →
+second_found : (d : ℕ) (inner : List ℕ → Result Sequence Fault) → Inner (suc d) inner → (b : ℕ) (bytes : List ℕ) (kind : Option ValueKind) (y : List ℕ) (x : Make × List ℕ) → IsOpcodeOf b opcode.If → bytes ≡ kind_byte kind ∷ y →
     (s : Sequence) → SeqOf d y s → second_at inner kind s ≡ Ok x → Of (suc d) (b ∷ bytes) (One x.0) x.1
 second_found d inner f b bytes kind y x k p (first, false, rest) o h =
     let split : bytes ≡ kind_byte kind ∷ (o.0 ++ o.1 ∷ []) ++ rest = p ∙ ap (λ (z : List ℕ). kind_byte kind ∷ z) (o.4 ∙ sym (append_assoc o.0 (o.1 ∷ []) rest)) in
@@ -165,7 +165,7 @@ second_found d inner f b bytes kind y x k p (first, true, rest) o h =
     let found : Of (suc d) (b ∷ bytes) (One (If kind first t.0.0)) t.0.1 = (b, front, ap (λ (z : List ℕ). b ∷ z) split, λ c z s. (b ∷ front, z, inr (b, o.1, g.1, o.0, g.0, k, o.3, g.3, o.2, g.2, refl), s, refl)) in
     subst (λ (z : Make × List ℕ). Of (suc d) (b ∷ bytes) (One z.0) z.1) (ok_is (If kind first t.0.0, t.0.1) x t.2) found
 
-if_found : (d : ℕ) (inner : List ℕ → Result Sequence Fault) → Inner d inner → (b : ℕ) (bytes : List ℕ) (x : Make × List ℕ) → Leads b lead.If → deeper d bytes (if_at inner bytes) ≡ Ok x → Of d (b ∷ bytes) (One x.0) x.1
+if_found : (d : ℕ) (inner : List ℕ → Result Sequence Fault) → Inner d inner → (b : ℕ) (bytes : List ℕ) (x : Make × List ℕ) → IsOpcodeOf b opcode.If → deeper d bytes (if_at inner bytes) ≡ Ok x → Of d (b ∷ bytes) (One x.0) x.1
 if_found zero inner f b bytes x k h = absurd cc
 if_found (suc d) inner f b bytes x k h =
     let q = bind_ok (block_type.read bytes) (λ k. inner k.1 >>= second_at inner k.0) x h in
@@ -177,39 +177,39 @@ as_one d bytes r x f h =
     let y = bind_ok r one x h in
     subst (λ (z : Item × List ℕ). Of d bytes z.0 z.1) (ok_is (One y.0.0, y.0.1) x y.2) (f y.0 y.1)
 
-led_found : (d : ℕ) (inner : List ℕ → Result Sequence Fault) → Inner d inner → (b : ℕ) (bytes : List ℕ) (x : Item × List ℕ) (l : Lead) → Leads b l → led_at d inner l bytes ≡ Ok x → Of d (b ∷ bytes) x.0 x.1
-led_found d inner f b bytes x lead.Else k h = subst (λ (z : Item × List ℕ). Of d (b ∷ bytes) z.0 z.1) (ok_is (Ends true, bytes) x h) (b, k, refl)
-led_found d inner f b bytes x lead.End k h = subst (λ (z : Item × List ℕ). Of d (b ∷ bytes) z.0 z.1) (ok_is (Ends false, bytes) x h) (b, k, refl)
-led_found d inner f b bytes x lead.Block k h = as_one d (b ∷ bytes) (deeper d bytes (block_at (block_of false) inner bytes)) x (λ y e. block_found d inner f false b bytes y k e) h
-led_found d inner f b bytes x lead.Loop k h = as_one d (b ∷ bytes) (deeper d bytes (block_at (block_of true) inner bytes)) x (λ y e. block_found d inner f true b bytes y k e) h
-led_found d inner f b bytes x lead.If k h = as_one d (b ∷ bytes) (deeper d bytes (if_at inner bytes)) x (λ y e. if_found d inner f b bytes y k e) h
-led_found d inner f b bytes x (lead.Fixed i) k h = single_of d (lead.Fixed i) b bytes x k h
-led_found d inner f b bytes x (lead.Indexed i) k h = single_of d (lead.Indexed i) b bytes x k h
-led_found d inner f b bytes x (lead.Load i) k h = single_of d (lead.Load i) b bytes x k h
-led_found d inner f b bytes x (lead.Store i) k h = single_of d (lead.Store i) b bytes x k h
-led_found d inner f b bytes x lead.MemorySize k h = single_of d lead.MemorySize b bytes x k h
-led_found d inner f b bytes x lead.MemoryGrow k h = single_of d lead.MemoryGrow b bytes x k h
-led_found d inner f b bytes x lead.I32Const k h = single_of d lead.I32Const b bytes x k h
-led_found d inner f b bytes x lead.I64Const k h = single_of d lead.I64Const b bytes x k h
-led_found d inner f b bytes x lead.Br k h = single_of d lead.Br b bytes x k h
-led_found d inner f b bytes x lead.BrIf k h = single_of d lead.BrIf b bytes x k h
-led_found d inner f b bytes x lead.BrTable k h = single_of d lead.BrTable b bytes x k h
-led_found d inner f b bytes x lead.Return k h = single_of d lead.Return b bytes x k h
-led_found d inner f b bytes x lead.Call k h = single_of d lead.Call b bytes x k h
-led_found d inner f b bytes x lead.CallIndirect k h = single_of d lead.CallIndirect b bytes x k h
+led_found : (d : ℕ) (inner : List ℕ → Result Sequence Fault) → Inner d inner → (b : ℕ) (bytes : List ℕ) (x : Item × List ℕ) (l : Opcode) → IsOpcodeOf b l → led_at d inner l bytes ≡ Ok x → Of d (b ∷ bytes) x.0 x.1
+led_found d inner f b bytes x opcode.Else k h = subst (λ (z : Item × List ℕ). Of d (b ∷ bytes) z.0 z.1) (ok_is (Ends true, bytes) x h) (b, k, refl)
+led_found d inner f b bytes x opcode.End k h = subst (λ (z : Item × List ℕ). Of d (b ∷ bytes) z.0 z.1) (ok_is (Ends false, bytes) x h) (b, k, refl)
+led_found d inner f b bytes x opcode.Block k h = as_one d (b ∷ bytes) (deeper d bytes (block_at (block_of false) inner bytes)) x (λ y e. block_found d inner f false b bytes y k e) h
+led_found d inner f b bytes x opcode.Loop k h = as_one d (b ∷ bytes) (deeper d bytes (block_at (block_of true) inner bytes)) x (λ y e. block_found d inner f true b bytes y k e) h
+led_found d inner f b bytes x opcode.If k h = as_one d (b ∷ bytes) (deeper d bytes (if_at inner bytes)) x (λ y e. if_found d inner f b bytes y k e) h
+led_found d inner f b bytes x (opcode.Fixed i) k h = single_of d (opcode.Fixed i) b bytes x k h
+led_found d inner f b bytes x (opcode.Indexed i) k h = single_of d (opcode.Indexed i) b bytes x k h
+led_found d inner f b bytes x (opcode.Load i) k h = single_of d (opcode.Load i) b bytes x k h
+led_found d inner f b bytes x (opcode.Store i) k h = single_of d (opcode.Store i) b bytes x k h
+led_found d inner f b bytes x opcode.MemorySize k h = single_of d opcode.MemorySize b bytes x k h
+led_found d inner f b bytes x opcode.MemoryGrow k h = single_of d opcode.MemoryGrow b bytes x k h
+led_found d inner f b bytes x opcode.I32Const k h = single_of d opcode.I32Const b bytes x k h
+led_found d inner f b bytes x opcode.I64Const k h = single_of d opcode.I64Const b bytes x k h
+led_found d inner f b bytes x opcode.Br k h = single_of d opcode.Br b bytes x k h
+led_found d inner f b bytes x opcode.BrIf k h = single_of d opcode.BrIf b bytes x k h
+led_found d inner f b bytes x opcode.BrTable k h = single_of d opcode.BrTable b bytes x k h
+led_found d inner f b bytes x opcode.Return k h = single_of d opcode.Return b bytes x k h
+led_found d inner f b bytes x opcode.Call k h = single_of d opcode.Call b bytes x k h
+led_found d inner f b bytes x opcode.CallIndirect k h = single_of d opcode.CallIndirect b bytes x k h
 
-led_by : (bytes : List ℕ) (l : Lead × List ℕ) → opcode.read bytes ≡ Ok l → (b : ℕ) × Leads b l.0 × (bytes ≡ b ∷ l.1)
+led_by : (bytes : List ℕ) (l : Opcode × List ℕ) → an_opcode.read bytes ≡ Ok l → (b : ℕ) × IsOpcodeOf b l.0 × (bytes ≡ b ∷ l.1)
 led_by bytes l h =
     let f = exact_opcode.reads.found bytes l h in
     let b = f.1 in
     (b.0, b.1, f.2 ∙ ap (λ (z : List ℕ). z ++ l.1) b.2)
 
-pub opcode_shorter : (bytes : List ℕ) (l : Lead) (rest : List ℕ) → opcode.read bytes ≡ Ok (l, rest) → length rest < length bytes
+pub opcode_shorter : (bytes : List ℕ) (l : Opcode) (rest : List ℕ) → an_opcode.read bytes ≡ Ok (l, rest) → length rest < length bytes
 opcode_shorter bytes l rest h = let b = led_by bytes (l, rest) h in omega (arith, ap length b.2)
 
 item_found : (d : ℕ) (inner : List ℕ → Result Sequence Fault) → Inner d inner → (bytes : List ℕ) (x : Item × List ℕ) → item_at d inner bytes ≡ Ok x → Of d bytes x.0 x.1
 item_found d inner f bytes x h =
-    let l = bind_ok (opcode.read bytes) (λ l. led_at d inner l.0 l.1) x h in
+    let l = bind_ok (an_opcode.read bytes) (λ l. led_at d inner l.0 l.1) x h in
     let b = led_by bytes l.0 l.1 in
     subst (λ z. Of d z x.0 x.1) (sym b.2) (led_found d inner f b.0 l.0.1 x l.0.0 b.1 l.2)
 
@@ -249,26 +249,26 @@ sequence e by_else rest = Ok (e, by_else, rest)
 abbrev item : Item → List ℕ → Read Item
 item i rest = Ok (i, rest)
 
-led_single : (d : ℕ) (inner : List ℕ → Result Sequence Fault) (l : Lead) (bytes more : List ℕ) (make : Make) → (completes l).Spells make more → led_at d inner l bytes ≡ ((completes l).read bytes >>= one)
-led_single d inner (lead.Fixed i) bytes more make h = refl
-led_single d inner (lead.Indexed i) bytes more make h = refl
-led_single d inner (lead.Load i) bytes more make h = refl
-led_single d inner (lead.Store i) bytes more make h = refl
-led_single d inner lead.MemorySize bytes more make h = refl
-led_single d inner lead.MemoryGrow bytes more make h = refl
-led_single d inner lead.I32Const bytes more make h = refl
-led_single d inner lead.I64Const bytes more make h = refl
-led_single d inner lead.Br bytes more make h = refl
-led_single d inner lead.BrIf bytes more make h = refl
-led_single d inner lead.BrTable bytes more make h = refl
-led_single d inner lead.Return bytes more make h = refl
-led_single d inner lead.Call bytes more make h = refl
-led_single d inner lead.CallIndirect bytes more make h = refl
-led_single d inner lead.Block bytes more make h = absurd h
-led_single d inner lead.Loop bytes more make h = absurd h
-led_single d inner lead.If bytes more make h = absurd h
-led_single d inner lead.Else bytes more make h = absurd h
-led_single d inner lead.End bytes more make h = absurd h
+led_single : (d : ℕ) (inner : List ℕ → Result Sequence Fault) (l : Opcode) (bytes more : List ℕ) (make : Make) → (completes l).Spells make more → led_at d inner l bytes ≡ ((completes l).read bytes >>= one)
+led_single d inner (opcode.Fixed i) bytes more make h = refl
+led_single d inner (opcode.Indexed i) bytes more make h = refl
+led_single d inner (opcode.Load i) bytes more make h = refl
+led_single d inner (opcode.Store i) bytes more make h = refl
+led_single d inner opcode.MemorySize bytes more make h = refl
+led_single d inner opcode.MemoryGrow bytes more make h = refl
+led_single d inner opcode.I32Const bytes more make h = refl
+led_single d inner opcode.I64Const bytes more make h = refl
+led_single d inner opcode.Br bytes more make h = refl
+led_single d inner opcode.BrIf bytes more make h = refl
+led_single d inner opcode.BrTable bytes more make h = refl
+led_single d inner opcode.Return bytes more make h = refl
+led_single d inner opcode.Call bytes more make h = refl
+led_single d inner opcode.CallIndirect bytes more make h = refl
+led_single d inner opcode.Block bytes more make h = absurd h
+led_single d inner opcode.Loop bytes more make h = absurd h
+led_single d inner opcode.If bytes more make h = absurd h
+led_single d inner opcode.Else bytes more make h = absurd h
+led_single d inner opcode.End bytes more make h = absurd h
 
 single_item : (d : ℕ) (inner : List ℕ → Result Sequence Fault) (make : Make) (x : List ℕ) → IsSingle make x → (tail : List ℕ) → item_at d inner (x ++ tail) ≡ item (One make) tail
 single_item d inner make x h tail =
@@ -291,45 +291,45 @@ less n a x y s h lt = omega (arith, ap length s, length-append x y)
 single_long : (make : Make) (x : List ℕ) → IsSingle make x → 0 < length x
 single_long make x h = let b = h.3 in omega (arith, ap length h.5, length-append h.1 h.2, ap length b.2)
 
-led : (b : ℕ) (rest : List ℕ) (l : Lead) → Leads b l → opcode.read (b ∷ rest) ≡ Ok (l, rest)
+led : (b : ℕ) (rest : List ℕ) (l : Opcode) → IsOpcodeOf b l → an_opcode.read (b ∷ rest) ≡ Ok (l, rest)
 led b rest l k = exact_opcode.reads.again l (b ∷ []) rest (b, k, refl)
 
-over : (n d : ℕ) (e : Bool) (b : ℕ) (rest : List ℕ) → Leads b (term e) → seq_at (suc n) d (b ∷ rest) ≡ sequence Over e rest
-over n d true b rest k = ap (λ r. (r >>= λ l. led_at d (inside (seq_at n) d) l.0 l.1) >>= go_on (seq_at n d)) (led b rest lead.Else k)
-over n d false b rest k = ap (λ r. (r >>= λ l. led_at d (inside (seq_at n) d) l.0 l.1) >>= go_on (seq_at n d)) (led b rest lead.End k)
+over : (n d : ℕ) (e : Bool) (b : ℕ) (rest : List ℕ) → IsOpcodeOf b (term e) → seq_at (suc n) d (b ∷ rest) ≡ sequence Over e rest
+over n d true b rest k = ap (λ r. (r >>= λ l. led_at d (inside (seq_at n) d) l.0 l.1) >>= go_on (seq_at n d)) (led b rest opcode.Else k)
+over n d false b rest k = ap (λ r. (r >>= λ l. led_at d (inside (seq_at n) d) l.0 l.1) >>= go_on (seq_at n d)) (led b rest opcode.End k)
 
-block_led : (d : ℕ) (inner : List ℕ → Result Sequence Fault) (looped : Bool) (bytes : List ℕ) → led_at (suc d) inner (block_lead looped) bytes ≡ (block_at (block_of looped) inner bytes >>= one)
+block_led : (d : ℕ) (inner : List ℕ → Result Sequence Fault) (looped : Bool) (bytes : List ℕ) → led_at (suc d) inner (block_opcode looped) bytes ≡ (block_at (block_of looped) inner bytes >>= one)
 block_led d inner true bytes = refl
 block_led d inner false bytes = refl
 
-block_item : (d : ℕ) (inner : List ℕ → Result Sequence Fault) (looped : Bool) (kind : Option ValueKind) (body : Expression) (x a : List ℕ) (op close : ℕ) → Leads op (block_lead looped) → x ≡ op ∷ kind_byte kind ∷ (a ++ close ∷ []) →
+block_item : (d : ℕ) (inner : List ℕ → Result Sequence Fault) (looped : Bool) (kind : Option ValueKind) (body : Expression) (x a : List ℕ) (op close : ℕ) → IsOpcodeOf op (block_opcode looped) → x ≡ op ∷ kind_byte kind ∷ (a ++ close ∷ []) →
     ((tail : List ℕ) → inner (a ++ close ∷ tail) ≡ sequence body false tail) → (tail : List ℕ) → item_at (suc d) inner (x ++ tail) ≡ item (One (block_of looped kind body)) tail
 block_item d inner looped kind body x a op close k e g tail =
     let w : List ℕ = (a ++ close ∷ []) ++ tail in
     ap (λ (z : List ℕ). item_at (suc d) inner (z ++ tail)) e
-    ∙ ap (λ r. r >>= λ l. led_at (suc d) inner l.0 l.1) (led op (kind_byte kind ∷ w) (block_lead looped) k)
+    ∙ ap (λ r. r >>= λ l. led_at (suc d) inner l.0 l.1) (led op (kind_byte kind ∷ w) (block_opcode looped) k)
     ∙ block_led d inner looped (kind_byte kind ∷ w)
     ∙ ap (λ r. (r >>= λ k. body_at inner k.1 >>= λ b. made (block_of looped k.0 b.0) b.1) >>= one) (kind_again kind w)
     ∙ ap (λ (z : List ℕ). (body_at inner z >>= λ b. made (block_of looped kind b.0) b.1) >>= one) (append_assoc a (close ∷ []) tail)
     ∙ ap (λ r. ((r >>= closed) >>= λ b. made (block_of looped kind b.0) b.1) >>= one) (g tail)
 
-short_item : (d : ℕ) (inner : List ℕ → Result Sequence Fault) (kind : Option ValueKind) (first : Expression) (x a : List ℕ) (op close : ℕ) → Leads op lead.If → x ≡ op ∷ kind_byte kind ∷ (a ++ close ∷ []) →
+short_item : (d : ℕ) (inner : List ℕ → Result Sequence Fault) (kind : Option ValueKind) (first : Expression) (x a : List ℕ) (op close : ℕ) → IsOpcodeOf op opcode.If → x ≡ op ∷ kind_byte kind ∷ (a ++ close ∷ []) →
     ((tail : List ℕ) → inner (a ++ close ∷ tail) ≡ sequence first false tail) → (tail : List ℕ) → item_at (suc d) inner (x ++ tail) ≡ item (One (If kind first Over)) tail
 short_item d inner kind first x a op close k e g tail =
     let w : List ℕ = (a ++ close ∷ []) ++ tail in
     ap (λ (z : List ℕ). item_at (suc d) inner (z ++ tail)) e
-    ∙ ap (λ r. r >>= λ l. led_at (suc d) inner l.0 l.1) (led op (kind_byte kind ∷ w) lead.If k)
+    ∙ ap (λ r. r >>= λ l. led_at (suc d) inner l.0 l.1) (led op (kind_byte kind ∷ w) opcode.If k)
     ∙ ap (λ r. (r >>= λ k. inner k.1 >>= second_at inner k.0) >>= one) (kind_again kind w)
     ∙ ap (λ (z : List ℕ). (inner z >>= second_at inner kind) >>= one) (append_assoc a (close ∷ []) tail)
     ∙ ap (λ r. (r >>= second_at inner kind) >>= one) (g tail)
 
-long_item : (d : ℕ) (inner : List ℕ → Result Sequence Fault) (kind : Option ValueKind) (first second : Expression) (x a b : List ℕ) (op middle close : ℕ) → Leads op lead.If → x ≡ op ∷ kind_byte kind ∷ (a ++ middle ∷ (b ++ close ∷ [])) →
+long_item : (d : ℕ) (inner : List ℕ → Result Sequence Fault) (kind : Option ValueKind) (first second : Expression) (x a b : List ℕ) (op middle close : ℕ) → IsOpcodeOf op opcode.If → x ≡ op ∷ kind_byte kind ∷ (a ++ middle ∷ (b ++ close ∷ [])) →
     ((tail : List ℕ) → inner (a ++ middle ∷ tail) ≡ sequence first true tail) → ((tail : List ℕ) → inner (b ++ close ∷ tail) ≡ sequence second false tail) → (tail : List ℕ) → item_at (suc d) inner (x ++ tail) ≡ item (One (If kind first second)) tail
 long_item d inner kind first second x a b op middle close k e g h tail =
     let v : List ℕ = b ++ close ∷ [] in
     let w : List ℕ = (a ++ middle ∷ v) ++ tail in
     ap (λ (z : List ℕ). item_at (suc d) inner (z ++ tail)) e
-    ∙ ap (λ r. r >>= λ l. led_at (suc d) inner l.0 l.1) (led op (kind_byte kind ∷ w) lead.If k)
+    ∙ ap (λ r. r >>= λ l. led_at (suc d) inner l.0 l.1) (led op (kind_byte kind ∷ w) opcode.If k)
     ∙ ap (λ r. (r >>= λ k. inner k.1 >>= second_at inner k.0) >>= one) (kind_again kind w)
     ∙ ap (λ (z : List ℕ). (inner z >>= second_at inner kind) >>= one) (append_assoc a (middle ∷ v) tail)
     ∙ ap (λ r. (r >>= second_at inner kind) >>= one) (g (v ++ tail))
@@ -351,7 +351,7 @@ both_within n op kind middle close whole x y a b s e lt = (
   omega (arith, ap length s, length-append x y, ap length e, length-append a (middle ∷ (b ++ close ∷ [])), length-append b (close ∷ [])),
 )
 
-pub again : (c : Expression) (n d : ℕ) (a : List ℕ) (e : Bool) (b : ℕ) (rest : List ℕ) → Spells d c a → Leads b (term e) → length a < n → seq_at n d (a ++ b ∷ rest) ≡ sequence c e rest
+pub again : (c : Expression) (n d : ℕ) (a : List ℕ) (e : Bool) (b : ℕ) (rest : List ℕ) → Spells d c a → IsOpcodeOf b (term e) → length a < n → seq_at n d (a ++ b ∷ rest) ≡ sequence c e rest
 again c zero d a e b rest h k lt = absurd (omega arith)
 again Over (suc n) d a e b rest h k lt = ap (λ (z : List ℕ). seq_at (suc n) d (z ++ b ∷ rest)) h ∙ over n d e b rest k
 again (Plain i c) (suc n) d a e b rest h k lt =
@@ -465,35 +465,35 @@ deeper_placed b (suc d) bytes inner r p g h = further g (b ∷ bytes) (b ∷ [])
 abbrev InnerExact : ℕ → (List ℕ → Result Sequence Fault) → Type 0
 InnerExact d inner = (e : ℕ) → d ≡ suc e → ((y : List ℕ) (s : Sequence) → inner y ≡ Ok s → SeqOf e y s) × SeqPlaced inner
 
-alone_placed : (b : ℕ) (l : Lead) (bytes : List ℕ) (f : Fault) → ((completes l).read bytes >>= one) ≡ Err f → Placed f (b ∷ bytes)
+alone_placed : (b : ℕ) (l : Opcode) (bytes : List ℕ) (f : Fault) → ((completes l).read bytes >>= one) ≡ Err f → Placed f (b ∷ bytes)
 alone_placed b l bytes f h = further f (b ∷ bytes) (b ∷ []) bytes refl (one_placed bytes ((completes l).read bytes) f (λ g e. (exact_completes l).placed bytes g e) h)
 
-led_placed : (d : ℕ) (inner : List ℕ → Result Sequence Fault) → InnerExact d inner → (b : ℕ) (bytes : List ℕ) (f : Fault) (l : Lead) → led_at d inner l bytes ≡ Err f → Placed f (b ∷ bytes)
-led_placed d inner i b bytes f lead.Else h = absurd cc
-led_placed d inner i b bytes f lead.End h = absurd cc
-led_placed d inner i b bytes f lead.Block h = one_placed (b ∷ bytes) (deeper d bytes (block_at (block_of false) inner bytes)) f (deeper_placed b d bytes inner (block_at (block_of false) inner bytes) (λ e k g. block_placed e (block_of false) inner (i e k).0 (i e k).1 bytes g)) h
-led_placed d inner i b bytes f lead.Loop h = one_placed (b ∷ bytes) (deeper d bytes (block_at (block_of true) inner bytes)) f (deeper_placed b d bytes inner (block_at (block_of true) inner bytes) (λ e k g. block_placed e (block_of true) inner (i e k).0 (i e k).1 bytes g)) h
-led_placed d inner i b bytes f lead.If h = one_placed (b ∷ bytes) (deeper d bytes (if_at inner bytes)) f (deeper_placed b d bytes inner (if_at inner bytes) (λ e k g. if_placed e inner (i e k).0 (i e k).1 bytes g)) h
-led_placed d inner i b bytes f (lead.Fixed j) h = alone_placed b (lead.Fixed j) bytes f h
-led_placed d inner i b bytes f (lead.Indexed j) h = alone_placed b (lead.Indexed j) bytes f h
-led_placed d inner i b bytes f (lead.Load j) h = alone_placed b (lead.Load j) bytes f h
-led_placed d inner i b bytes f (lead.Store j) h = alone_placed b (lead.Store j) bytes f h
-led_placed d inner i b bytes f lead.MemorySize h = alone_placed b lead.MemorySize bytes f h
-led_placed d inner i b bytes f lead.MemoryGrow h = alone_placed b lead.MemoryGrow bytes f h
-led_placed d inner i b bytes f lead.I32Const h = alone_placed b lead.I32Const bytes f h
-led_placed d inner i b bytes f lead.I64Const h = alone_placed b lead.I64Const bytes f h
-led_placed d inner i b bytes f lead.Br h = alone_placed b lead.Br bytes f h
-led_placed d inner i b bytes f lead.BrIf h = alone_placed b lead.BrIf bytes f h
-led_placed d inner i b bytes f lead.BrTable h = alone_placed b lead.BrTable bytes f h
-led_placed d inner i b bytes f lead.Return h = alone_placed b lead.Return bytes f h
-led_placed d inner i b bytes f lead.Call h = alone_placed b lead.Call bytes f h
-led_placed d inner i b bytes f lead.CallIndirect h = alone_placed b lead.CallIndirect bytes f h
+led_placed : (d : ℕ) (inner : List ℕ → Result Sequence Fault) → InnerExact d inner → (b : ℕ) (bytes : List ℕ) (f : Fault) (l : Opcode) → led_at d inner l bytes ≡ Err f → Placed f (b ∷ bytes)
+led_placed d inner i b bytes f opcode.Else h = absurd cc
+led_placed d inner i b bytes f opcode.End h = absurd cc
+led_placed d inner i b bytes f opcode.Block h = one_placed (b ∷ bytes) (deeper d bytes (block_at (block_of false) inner bytes)) f (deeper_placed b d bytes inner (block_at (block_of false) inner bytes) (λ e k g. block_placed e (block_of false) inner (i e k).0 (i e k).1 bytes g)) h
+led_placed d inner i b bytes f opcode.Loop h = one_placed (b ∷ bytes) (deeper d bytes (block_at (block_of true) inner bytes)) f (deeper_placed b d bytes inner (block_at (block_of true) inner bytes) (λ e k g. block_placed e (block_of true) inner (i e k).0 (i e k).1 bytes g)) h
+led_placed d inner i b bytes f opcode.If h = one_placed (b ∷ bytes) (deeper d bytes (if_at inner bytes)) f (deeper_placed b d bytes inner (if_at inner bytes) (λ e k g. if_placed e inner (i e k).0 (i e k).1 bytes g)) h
+led_placed d inner i b bytes f (opcode.Fixed j) h = alone_placed b (opcode.Fixed j) bytes f h
+led_placed d inner i b bytes f (opcode.Indexed j) h = alone_placed b (opcode.Indexed j) bytes f h
+led_placed d inner i b bytes f (opcode.Load j) h = alone_placed b (opcode.Load j) bytes f h
+led_placed d inner i b bytes f (opcode.Store j) h = alone_placed b (opcode.Store j) bytes f h
+led_placed d inner i b bytes f opcode.MemorySize h = alone_placed b opcode.MemorySize bytes f h
+led_placed d inner i b bytes f opcode.MemoryGrow h = alone_placed b opcode.MemoryGrow bytes f h
+led_placed d inner i b bytes f opcode.I32Const h = alone_placed b opcode.I32Const bytes f h
+led_placed d inner i b bytes f opcode.I64Const h = alone_placed b opcode.I64Const bytes f h
+led_placed d inner i b bytes f opcode.Br h = alone_placed b opcode.Br bytes f h
+led_placed d inner i b bytes f opcode.BrIf h = alone_placed b opcode.BrIf bytes f h
+led_placed d inner i b bytes f opcode.BrTable h = alone_placed b opcode.BrTable bytes f h
+led_placed d inner i b bytes f opcode.Return h = alone_placed b opcode.Return bytes f h
+led_placed d inner i b bytes f opcode.Call h = alone_placed b opcode.Call bytes f h
+led_placed d inner i b bytes f opcode.CallIndirect h = alone_placed b opcode.CallIndirect bytes f h
 
 item_placed : (d : ℕ) (inner : List ℕ → Result Sequence Fault) → InnerExact d inner → (bytes : List ℕ) (f : Fault) → item_at d inner bytes ≡ Err f → Placed f bytes
 item_placed d inner i bytes f h = ⊎_elim
     (λ e. exact_opcode.placed bytes f e)
     (λ e. let b = led_by bytes e.0 e.1 in subst (λ z. Placed f z) (sym b.2) (led_placed d inner i b.0 e.0.1 f e.0.0 e.2))
-    (bind_err (opcode.read bytes) (λ l. led_at d inner l.0 l.1) f h)
+    (bind_err (an_opcode.read bytes) (λ l. led_at d inner l.0 l.1) f h)
 
 none_left : (bytes : List ℕ) → Placed (Ended 0) bytes
 none_left bytes = (bytes, [], sym (append-nil bytes), refl, tt)

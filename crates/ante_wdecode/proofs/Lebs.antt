@@ -4,7 +4,7 @@ use Rattle.std.proofs.lemmas.Bool.{ltb-false, ltb-true, lt-ltb, le-ltb}
 use Rattle.std.proofs.lemmas.Nat.{pow-add}
 use Rattle.ante_wdecode.specs.declared.integers.Misread.{Misread}
 use Rattle.ante_wdecode.specs.declared.integers.Misread.TheVariants.{Short, Leb}
-use Rattle.ante_wdecode.specs.Integers.{last_value, more_value, IsLeb, IsCut, ◌>>=◌, ends_with, leb_at}
+use Rattle.ante_wdecode.specs.Leb128.{last_value, more_value, IsLeb, IsCut, ◌>>=◌, ends_with, leb_at}
 use Rattle.ante_wdecode.specs.Faults.{IsMisspelled}
 
 abbrev pub done : {A : Type 0} → A → Result A Misread

@@ -4,13 +4,14 @@ use Rattle.std.specs.Prelude.{bytes_eq}
 use Rattle.std.proofs.lemmas.Bool.{ltb-true, ltb-false, le-ltb, eqb-true, eq-eqb}
 use Rattle.std.proofs.lemmas.List.{length-append, take_at}
 use Rattle.std.proofs.lemmas.Slice.Eq.{bytes_eq-Decides}
+use Rattle.ante_wtree.specs.Limits.{most_module_bytes, most_types, most_imports, most_functions, most_table_elements, most_globals, most_exports, most_element_segments, most_data_segments}
 use Rattle.ante_wtree.specs.Trees.{Tree}
 use Rattle.ante_wdecode.specs.declared.fault.DecodeKind.{DecodeKind}
 use Rattle.ante_wdecode.specs.declared.fault.DecodeKind.TheVariants as kind
 use Rattle.ante_wdecode.specs.declared.fault.DecodeError.TheVariants as error
 use Rattle.ante_wdecode.specs.declared.sections.SectionId.{SectionId}
 use Rattle.ante_wdecode.specs.declared.sections.SectionId.TheVariants as id
-use Rattle.ante_wdecode.specs.Integers.{◌>>=◌, IsU32, IsCut, u32_at}
+use Rattle.ante_wdecode.specs.Leb128.{◌>>=◌, IsU32, IsCut, u32_at}
 use Rattle.ante_wdecode.specs.Rules.{Fault, Ended, At, Read, Rule, yields, in_turn, or_fault, among, one_of, raw, filling, misfit_of, u32}
 use Rattle.ante_wdecode.specs.Faults.{Shows}
 use Rattle.ante_wdecode.specs.Instructions.{vector}
@@ -62,17 +63,17 @@ whole_of rule make p = whole (in_turn rule (λ x. yields (make x))) (one_then ru
 
 pub whole_contents : (m : Tree) (i : SectionId) → IsWhole (contents m i)
 whole_contents m id.Custom = whole_custom
-whole_contents m id.Types = whole_of (vector 1024 func_type) _ (exact_vector 1024 func_type exact_func_type)
-whole_contents m id.Imports = whole_of (vector 8192 import) _ (exact_vector 8192 import exact_import)
-whole_contents m id.Functions = whole_of (vector (8192 - imported m.imports) u32) _ (exact_vector (8192 - imported m.imports) u32 exact_u32)
-whole_contents m id.Tables = whole_of (vector any (table_type 8192)) _ (exact_vector any (table_type 8192) (exact_sized_type true))
+whole_contents m id.Types = whole_of (vector most_types func_type) _ (exact_vector most_types func_type exact_func_type)
+whole_contents m id.Imports = whole_of (vector most_imports import) _ (exact_vector most_imports import exact_import)
+whole_contents m id.Functions = whole_of (vector (most_functions - imported m.imports) u32) _ (exact_vector (most_functions - imported m.imports) u32 exact_u32)
+whole_contents m id.Tables = whole_of (vector any (table_type most_table_elements)) _ (exact_vector any (table_type most_table_elements) (exact_sized_type true))
 whole_contents m id.Memories = whole_of (vector any (limits any)) _ (exact_vector any (limits any) (exact_sized_type false))
-whole_contents m id.Globals = whole_of (vector 1024 global) _ (exact_vector 1024 global exact_global)
-whole_contents m id.Exports = whole_of (vector 8192 export) _ (exact_vector 8192 export exact_export)
+whole_contents m id.Globals = whole_of (vector most_globals global) _ (exact_vector most_globals global exact_global)
+whole_contents m id.Exports = whole_of (vector most_exports export) _ (exact_vector most_exports export exact_export)
 whole_contents m id.Start = whole_of u32 _ exact_u32
-whole_contents m id.Elements = whole_of (vector 1024 element) _ (exact_vector 1024 element exact_element)
+whole_contents m id.Elements = whole_of (vector most_element_segments element) _ (exact_vector most_element_segments element exact_element)
 whole_contents m id.Codes = whole_of (bodies m) _ (exact_bodies m)
-whole_contents m id.Segments = whole_of (vector 1024 segment) _ (exact_vector 1024 segment exact_segment)
+whole_contents m id.Segments = whole_of (vector most_data_segments segment) _ (exact_vector most_data_segments segment exact_segment)
 
 -- ---- a section
 
@@ -372,8 +373,8 @@ module_found code m h = ⊎_elim
     (λ t.
     let b = bind_ok (at_top (parts_at code)) paired m t.1 in
     let p = paired_is b.0 m b.2 in
-    subst (λ z. Encodes z code) p.0 (record { size = ltb-false 1048576 (length code) t.0; sections = parts_found code b.0 (top_is (parts_at code) b.0 b.1); bodies = p.1 }))
-    (chosen (nat_lt 1048576 (length code)) (Err (At (length code) kind.Limit)) (at_top (parts_at code) >>= paired) (Ok m) h)
+    subst (λ z. Encodes z code) p.0 (record { size = ltb-false most_module_bytes (length code) t.0; sections = parts_found code b.0 (top_is (parts_at code) b.0 b.1); bodies = p.1 }))
+    (chosen (nat_lt most_module_bytes (length code)) (Err (At (length code) kind.Limit)) (at_top (parts_at code) >>= paired) (Ok m) h)
   where
     never : Err (At (length code) kind.Limit) ≡ Ok m → ⊥
     never k = cc
@@ -381,7 +382,7 @@ module_found code m h = ⊎_elim
 pub module_again : (code : List ℕ) (m : Tree) → Encodes m code → module_at code ≡ Ok m
 module_again code m h =
     let s = h.sections in
-    ap (λ t. cond t (Err (At (length code) kind.Limit)) (at_top (parts_at code) >>= paired)) (le-ltb 1048576 (length code) h.size)
+    ap (λ t. cond t (Err (At (length code) kind.Limit)) (at_top (parts_at code) >>= paired)) (le-ltb most_module_bytes (length code) h.size)
     ∙ ap (λ r. at_top r >>= paired) (parts_again code m s.0 s.1 s.2 s.3)
     ∙ ap (λ t. cond t (good m) (Err (At 0 kind.Form))) (eq-eqb (length m.functions) (length m.codes) h.bodies)
 
@@ -400,7 +401,7 @@ module_fault code f h = ⊎_elim
     (λ e. top_fault code (parts_at code) f refl e)
     (λ e. unpaired e.0 e.2)
     (bind_err (at_top (parts_at code)) paired f t.1))
-    (chosen (nat_lt 1048576 (length code)) (Err (At (length code) kind.Limit)) (at_top (parts_at code) >>= paired) (Err f) h)
+    (chosen (nat_lt most_module_bytes (length code)) (Err (At (length code) kind.Limit)) (at_top (parts_at code) >>= paired) (Err f) h)
   where
     never : {m : Tree} → good m ≡ Err f → ⊥
     never k = cc

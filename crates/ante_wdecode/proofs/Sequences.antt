@@ -1,21 +1,21 @@
--- Sequences of instructions: what was read so far, put before what is still to be read.
+-- Sequences of instructions: what was read so far, cons before what is still to be read.
 use Rattle.std.proofs.Common.{◌≡◌, ℕ, zero, suc, ◌-◌, ◌<◌, ◌≤◌, Bool, true, false, List, [], ◌∷◌, ◌++◌, length, Option, Result, Ok, Err, refl, sym, ap, subst, ◌∙◌, arith}
 use Rattle.ante_wtree.specs.declared.instructions.Instr.{Instr}
 use Rattle.ante_wtree.specs.declared.instructions.ValueKind.{ValueKind}
-use Rattle.ante_wtree.specs.Expressions.{Expression, put, expression_of, Over, If}
+use Rattle.ante_wtree.specs.Expressions.{Expression, cons, expression_of, Over, If}
 use Rattle.ante_wdecode.specs.declared.fault.Unread.{Unread}
 use Rattle.ante_wdecode.specs.declared.fault.Unread.TheVariants as unread
-use Rattle.ante_wdecode.specs.declared.opcodes.Lead.{Lead}
-use Rattle.ante_wdecode.specs.Integers.{◌>>=◌}
+use Rattle.ante_wdecode.specs.declared.opcodes.Opcode.{Opcode}
+use Rattle.ante_wdecode.specs.Leb128.{◌>>=◌}
 use Rattle.ante_wdecode.specs.Rules.{Fault, Read, Fails}
-use Rattle.ante_wdecode.specs.Opcodes.{opcode}
+use Rattle.ante_wdecode.specs.Opcodes.{an_opcode}
 use Rattle.ante_wdecode.specs.Instructions.{block_type}
-use Rattle.ante_wdecode.specs.Reading.{Sequence, Item, Ends, One, body_at, block_at, second_at, if_at, deeper, one, led_at, item_at, go_on, inside, seq_at}
+use Rattle.ante_wdecode.specs.NestedInstructions.{Sequence, Item, Ends, One, body_at, block_at, second_at, if_at, deeper, one, led_at, item_at, go_on, inside, seq_at}
 use Rattle.ante_wdecode.proofs.Grammar.{Make}
 
 abbrev pub before : List Instr → Expression → Expression
 before [] e = e
-before (i ∷ is) e = put i (before is e)
+before (i ∷ is) e = cons i (before is e)
 
 abbrev pub with_front : List Instr → Result Sequence Fault → Result Sequence Fault
 with_front front read = read >>= λ s. Ok (before front s.0, s.1, s.2)
@@ -31,17 +31,17 @@ with_none : (r : Result Sequence Fault) → with_front [] r ≡ r
 with_none (Err f) = refl
 with_none (Ok s) = refl
 
-with_more : (front : List Instr) (i : Instr) (r : Result Sequence Fault) → with_front (front ++ i ∷ []) r ≡ with_front front (r >>= λ s. sequence (put i s.0) s.1 s.2)
+with_more : (front : List Instr) (i : Instr) (r : Result Sequence Fault) → with_front (front ++ i ∷ []) r ≡ with_front front (r >>= λ s. sequence (cons i s.0) s.1 s.2)
 with_more front i (Err f) = refl
 with_more front i (Ok s) = ap (λ e. sequence e s.1 s.2) (before_more front i s.0)
   where
-    before_more : (is : List Instr) (j : Instr) (e : Expression) → before (is ++ j ∷ []) e ≡ before is (put j e)
+    before_more : (is : List Instr) (j : Instr) (e : Expression) → before (is ++ j ∷ []) e ≡ before is (cons j e)
     before_more [] j e = refl
-    before_more (k ∷ is) j e = ap (put k) (before_more is j e)
+    before_more (k ∷ is) j e = ap (cons k) (before_more is j e)
 
 before_over : (is : List Instr) → before is Over ≡ expression_of is
 before_over [] = refl
-before_over (i ∷ is) = ap (put i) (before_over is)
+before_over (i ∷ is) = ap (cons i) (before_over is)
 
 pub none_yet : (depth : ℕ) (bytes : List ℕ) (front : List Instr) → front ≡ [] → SoFar depth bytes front bytes
 none_yet depth bytes front e = subst (λ f. SoFar depth bytes f bytes) (sym e) (record { left = omega arith; read = start })
@@ -51,7 +51,7 @@ none_yet depth bytes front e = subst (λ f. SoFar depth bytes f bytes) (sym e) (
     start (suc k) lt = (k, omega arith, with_none (seq_at (suc k) depth bytes))
 
 pub one_more : (depth : ℕ) (bytes : List ℕ) (front : List Instr) (rest after : List ℕ) (i : Instr) → length after < length rest →
-    ((n : ℕ) → length rest ≤ n → item_at depth (inside (seq_at n) depth) rest ≡ Ok (One (put i), after)) → SoFar depth bytes front rest → SoFar depth bytes (front ++ i ∷ []) after
+    ((n : ℕ) → length rest ≤ n → item_at depth (inside (seq_at n) depth) rest ≡ Ok (One (cons i), after)) → SoFar depth bytes front rest → SoFar depth bytes (front ++ i ∷ []) after
 one_more depth bytes front rest after i lt h s = record { left = omega (arith, s.left); read = λ m le. more m (s.read m le) }
   where
     more : (m : ℕ) → (n : ℕ) × (length rest ≤ n) × (with_front front (seq_at (suc n) depth rest) ≡ seq_at m depth bytes) → (n : ℕ) × (length after ≤ n) × (with_front (front ++ i ∷ []) (seq_at (suc n) depth after) ≡ seq_at m depth bytes)
@@ -81,7 +81,7 @@ at_fault depth bytes front rest e h s m lt =
 
 -- ---- an instruction by its opcode
 
-pub item_is : (depth : ℕ) (inner : List ℕ → Result Sequence Fault) (bytes rest : List ℕ) (l k : Lead) → opcode.read bytes ≡ Ok (l, rest) → l ≡ k → item_at depth inner bytes ≡ led_at depth inner k rest
+pub item_is : (depth : ℕ) (inner : List ℕ → Result Sequence Fault) (bytes rest : List ℕ) (l k : Opcode) → an_opcode.read bytes ≡ Ok (l, rest) → l ≡ k → item_at depth inner bytes ≡ led_at depth inner k rest
 item_is depth inner bytes rest l k e i = ap (λ r. r >>= λ x. led_at depth inner x.0 x.1) e ∙ ap (λ x. led_at depth inner x rest) i
 
 pub item_fails : (e : Unread) (x : Read Item) (r : Read Make) → x ≡ (r >>= one) → Fails e r → Fails e x

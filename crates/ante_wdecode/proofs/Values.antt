@@ -4,6 +4,7 @@ use Rattle.std.specs.Bool.{Decides}
 use Rattle.std.proofs.lemmas.Bool.{ltb-true, ltb-false, le-ltb, eqb-true, eq-eqb}
 use Rattle.std.proofs.lemmas.List.{length-append, length-take, length-drop, take-append-drop, take_at, drop_at}
 use Rattle.ante_wtree.specs.declared.instructions.PlainInstr.TheVariants as plain
+use Rattle.ante_wtree.specs.Limits.{most_branch_targets}
 use Rattle.ante_wtree.specs.Expressions.{Plain, Br, BrIf, BrTable, Return, Call, CallIndirect, MemoryGrow}
 use Rattle.ante_wdecode.specs.declared.fault.DecodeKind.{DecodeKind}
 use Rattle.ante_wdecode.specs.declared.fault.DecodeKind.TheVariants as kind
@@ -11,11 +12,11 @@ use Rattle.ante_wdecode.specs.declared.fault.Unread.{Unread}
 use Rattle.ante_wdecode.specs.declared.fault.Unread.TheVariants as unread
 use Rattle.ante_wdecode.specs.declared.integers.Misread.{Misread}
 use Rattle.ante_wdecode.specs.declared.integers.Misread.TheVariants as misread
-use Rattle.ante_wdecode.specs.declared.opcodes.Lead.{Lead}
-use Rattle.ante_wdecode.specs.declared.opcodes.Lead.TheVariants as lead
-use Rattle.ante_wdecode.specs.Integers.{leb_at, u32_at, s32_at, s64_at}
+use Rattle.ante_wdecode.specs.declared.opcodes.Opcode.{Opcode}
+use Rattle.ante_wdecode.specs.declared.opcodes.Opcode.TheVariants as opcode
+use Rattle.ante_wdecode.specs.Leb128.{leb_at, u32_at, s32_at, s64_at}
 use Rattle.ante_wdecode.specs.Rules.{Fault, Ended, At, Read, Rule, yields, in_turn, among, one_of, byte, items, moved, filled, filling, misfit_of, integer_at, u32, s32, s64, is_few, limited, exactly, Fails, left_of}
-use Rattle.ante_wdecode.specs.Opcodes.{opcodes, is_between, is_float, no_opcode, opcode, no_kind, value_types, value_type}
+use Rattle.ante_wdecode.specs.Opcodes.{opcodes, is_between, is_float, no_opcode, an_opcode, no_kind, value_types, value_type}
 use Rattle.ante_wdecode.specs.Instructions.{memarg, vector, indexed_of, completes, block_types, block_type}
 use Rattle.ante_wdecode.specs.Faults.{Shows}
 use Rattle.ante_wdecode.proofs.Lebs.{chosen, ok_is, leb_again, leb_found, low, low_is, low_leb, misspelled, misspelled_more}
@@ -91,7 +92,7 @@ opcode_shows b bytes h = by_test (is_float b) refl
     by_test true e = ap (λ t. t || is_between 0x7C 0x7D b) e
     by_test false e = (h, e)
 
-pub exact_opcode : IsExact opcode
+pub exact_opcode : IsExact an_opcode
 exact_opcode = exact_one no_opcode opcodes opcode_shows
 
 or_true : (t : Bool) → (t || true) ≡ true
@@ -122,26 +123,26 @@ one_then rule make p = exact_turn rule (λ a. yields (make a)) p (λ a. exact_yi
 pub exact_memarg : IsExact memarg
 exact_memarg = exact_turn u32 _ exact_u32 (λ align. one_then u32 (λ offset. record { align = align; offset = offset }) exact_u32)
 
-pub exact_completes : (l : Lead) → IsExact (completes l)
-exact_completes (lead.Fixed i) = exact_yields (Plain i)
-exact_completes (lead.Indexed x) = one_then u32 (λ n. Plain (indexed_of x n)) exact_u32
-exact_completes (lead.Load k) = one_then memarg (λ m. Plain (plain.Load k m)) exact_memarg
-exact_completes (lead.Store k) = one_then memarg (λ m. Plain (plain.Store k m)) exact_memarg
-exact_completes lead.MemorySize = one_then (byte 0) (λ z. Plain plain.MemorySize) (exact_byte 0)
-exact_completes lead.MemoryGrow = one_then (byte 0) (λ z. MemoryGrow) (exact_byte 0)
-exact_completes lead.I32Const = one_then s32 (λ n. Plain (plain.I32Const n)) exact_s32
-exact_completes lead.I64Const = one_then s64 (λ n. Plain (plain.I64Const n)) exact_s64
-exact_completes lead.Br = one_then u32 (λ n. Br n) exact_u32
-exact_completes lead.BrIf = one_then u32 (λ n. BrIf n) exact_u32
-exact_completes lead.BrTable = exact_turn (vector 8192 u32) _ (exact_vector 8192 u32 exact_u32) (λ labels. one_then u32 (λ n. BrTable labels n) exact_u32)
-exact_completes lead.Return = exact_yields Return
-exact_completes lead.Call = one_then u32 (λ n. Call n) exact_u32
-exact_completes lead.CallIndirect = exact_turn u32 _ exact_u32 (λ n. one_then (byte 0) (λ z. CallIndirect n) (exact_byte 0))
-exact_completes lead.Block = exact_nothing
-exact_completes lead.Loop = exact_nothing
-exact_completes lead.If = exact_nothing
-exact_completes lead.Else = exact_nothing
-exact_completes lead.End = exact_nothing
+pub exact_completes : (l : Opcode) → IsExact (completes l)
+exact_completes (opcode.Fixed i) = exact_yields (Plain i)
+exact_completes (opcode.Indexed x) = one_then u32 (λ n. Plain (indexed_of x n)) exact_u32
+exact_completes (opcode.Load k) = one_then memarg (λ m. Plain (plain.Load k m)) exact_memarg
+exact_completes (opcode.Store k) = one_then memarg (λ m. Plain (plain.Store k m)) exact_memarg
+exact_completes opcode.MemorySize = one_then (byte 0) (λ z. Plain plain.MemorySize) (exact_byte 0)
+exact_completes opcode.MemoryGrow = one_then (byte 0) (λ z. MemoryGrow) (exact_byte 0)
+exact_completes opcode.I32Const = one_then s32 (λ n. Plain (plain.I32Const n)) exact_s32
+exact_completes opcode.I64Const = one_then s64 (λ n. Plain (plain.I64Const n)) exact_s64
+exact_completes opcode.Br = one_then u32 (λ n. Br n) exact_u32
+exact_completes opcode.BrIf = one_then u32 (λ n. BrIf n) exact_u32
+exact_completes opcode.BrTable = exact_turn (vector most_branch_targets u32) _ (exact_vector most_branch_targets u32 exact_u32) (λ labels. one_then u32 (λ n. BrTable labels n) exact_u32)
+exact_completes opcode.Return = exact_yields Return
+exact_completes opcode.Call = one_then u32 (λ n. Call n) exact_u32
+exact_completes opcode.CallIndirect = exact_turn u32 _ exact_u32 (λ n. one_then (byte 0) (λ z. CallIndirect n) (exact_byte 0))
+exact_completes opcode.Block = exact_nothing
+exact_completes opcode.Loop = exact_nothing
+exact_completes opcode.If = exact_nothing
+exact_completes opcode.Else = exact_nothing
+exact_completes opcode.End = exact_nothing
 
 -- ---- a part of so many bytes
 

@@ -1,6 +1,7 @@
 -- What is read of a whole module, and what its faults say.
 use Rattle.std.specs.Prelude.{◌≡◌, ◌⊎◌, ℕ, zero, suc, ◌+◌, ◌<◌, ◌≤◌, List, [], ◌∷◌, ◌++◌, length, take, Result, Ok, Err, nat_eq, nat_lt, bytes_eq, if◌then◌else◌}
 use Rattle.ante_wtree.specs.declared.modules.Module.{Module}
+use Rattle.ante_wtree.specs.Limits.{most_module_bytes}
 use Rattle.ante_wtree.specs.Trees.{Tree, tree_of}
 use Rattle.ante_wdecode.specs.declared.fault.DecodeKind.{DecodeKind}
 use Rattle.ante_wdecode.specs.declared.fault.DecodeKind.TheVariants as kind
@@ -8,7 +9,7 @@ use Rattle.ante_wdecode.specs.declared.fault.DecodeError.{DecodeError}
 use Rattle.ante_wdecode.specs.declared.fault.DecodeError.TheVariants as error
 use Rattle.ante_wdecode.specs.declared.fault.Unread.{Unread}
 use Rattle.ante_wdecode.specs.declared.fault.Unread.TheVariants as unread
-use Rattle.ante_wdecode.specs.Integers.{◌>>=◌, IsU32, IsCut}
+use Rattle.ante_wdecode.specs.Leb128.{◌>>=◌, IsU32, IsCut}
 use Rattle.ante_wdecode.specs.Rules.{Fault, Ended, At, raw}
 use Rattle.ante_wdecode.specs.Faults.{Shows}
 use Rattle.ante_wdecode.specs.Sections.{bare, with_section, last_after, section, magic, version}
@@ -41,7 +42,7 @@ abbrev pub parts_at : List ℕ → Result Tree Fault
 parts_at code = header_at magic code >>= λ a. header_at version a >>= λ b. sections_at (length b) 0 bare b
 
 abbrev pub module_at : List ℕ → Result Tree Fault
-module_at code = if nat_lt 1048576 (length code) then Err (At (length code) kind.Limit) else at_top (parts_at code) >>= paired
+module_at code = if nat_lt most_module_bytes (length code) then Err (At (length code) kind.Limit) else at_top (parts_at code) >>= paired
 
 -- ---- what an answer says
 

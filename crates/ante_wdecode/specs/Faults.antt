@@ -2,7 +2,7 @@
 use Rattle.std.specs.Prelude.{◌≡◌, ◌⊎◌, ℕ, Bool, true, false, ◌||◌, List, [], ◌∷◌, ◌++◌, None}
 use Rattle.ante_wdecode.specs.declared.fault.DecodeKind.{DecodeKind}
 use Rattle.ante_wdecode.specs.declared.fault.DecodeKind.TheVariants as kind
-use Rattle.ante_wdecode.specs.Integers.{IsLeb, IsCut}
+use Rattle.ante_wdecode.specs.Leb128.{IsLeb, IsCut}
 use Rattle.ante_wdecode.specs.Rules.{among}
 use Rattle.ante_wdecode.specs.Opcodes.{opcodes, is_between, is_float}
 

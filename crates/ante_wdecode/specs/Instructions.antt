@@ -6,13 +6,14 @@ use Rattle.ante_wtree.specs.declared.instructions.MemArg.{MemArg}
 use Rattle.ante_wtree.specs.declared.instructions.PlainInstr.{PlainInstr}
 use Rattle.ante_wtree.specs.declared.instructions.PlainInstr.TheVariants as plain
 use Rattle.ante_wtree.specs.Expressions.{Expression, Over, Plain, Block, Loop, If, Br, BrIf, BrTable, Return, Call, CallIndirect, MemoryGrow}
+use Rattle.ante_wtree.specs.Limits.{most_branch_targets}
 use Rattle.ante_wdecode.specs.declared.opcodes.Indexed.{Indexed}
 use Rattle.ante_wdecode.specs.declared.opcodes.Indexed.TheVariants as indexed
-use Rattle.ante_wdecode.specs.declared.opcodes.Lead.{Lead}
-use Rattle.ante_wdecode.specs.declared.opcodes.Lead.TheVariants as lead
+use Rattle.ante_wdecode.specs.declared.opcodes.Opcode.{Opcode}
+use Rattle.ante_wdecode.specs.declared.opcodes.Opcode.TheVariants as opcode
 use Rattle.ante_wdecode.specs.Rules.{Rule, yields, nothing, one_of, byte, items, u32, s32, s64, limited}
-use Rattle.ante_wdecode.specs.Turns.{◌>>=◌}
-use Rattle.ante_wdecode.specs.Opcodes.{Leads, opcode, no_kind}
+use Rattle.ante_wdecode.specs.InTurn.{◌>>=◌}
+use Rattle.ante_wdecode.specs.Opcodes.{IsOpcodeOf, an_opcode, no_kind}
 
 -- one thing at the front, and another in the bytes after it
 abbrev pub Before : (List ℕ → Type 0) → (List ℕ → Type 0) → List ℕ → Type 0
@@ -39,57 +40,57 @@ vector most item = do
   items n item
 
 -- What completes an instruction without bodies, after its opcode. An instruction is what it makes of those after it.
-abbrev pub completes : Lead → Rule (Expression → Expression)
-completes (lead.Fixed i) = yields (Plain i)
-completes (lead.Indexed x) = do
+abbrev pub completes : Opcode → Rule (Expression → Expression)
+completes (opcode.Fixed i) = yields (Plain i)
+completes (opcode.Indexed x) = do
   n ← u32
   yields (Plain (indexed_of x n))
-completes (lead.Load k) = do
+completes (opcode.Load k) = do
   at ← memarg
   yields (Plain (plain.Load k at))
-completes (lead.Store k) = do
+completes (opcode.Store k) = do
   at ← memarg
   yields (Plain (plain.Store k at))
-completes lead.MemorySize = do
+completes opcode.MemorySize = do
   fixed ← byte 0x00
   yields (Plain plain.MemorySize)
-completes lead.MemoryGrow = do
+completes opcode.MemoryGrow = do
   fixed ← byte 0x00
   yields MemoryGrow
-completes lead.I32Const = do
+completes opcode.I32Const = do
   n ← s32
   yields (Plain (plain.I32Const n))
-completes lead.I64Const = do
+completes opcode.I64Const = do
   n ← s64
   yields (Plain (plain.I64Const n))
-completes lead.Br = do
+completes opcode.Br = do
   label ← u32
   yields (Br label)
-completes lead.BrIf = do
+completes opcode.BrIf = do
   label ← u32
   yields (BrIf label)
-completes lead.BrTable = do
-  labels ← vector 8192 u32
+completes opcode.BrTable = do
+  labels ← vector most_branch_targets u32
   label ← u32
   yields (BrTable labels label)
-completes lead.Return = yields Return
-completes lead.Call = do
+completes opcode.Return = yields Return
+completes opcode.Call = do
   function ← u32
   yields (Call function)
-completes lead.CallIndirect = do
+completes opcode.CallIndirect = do
   n ← u32
   fixed ← byte 0x00
   yields (CallIndirect n)
-completes lead.Block = nothing
-completes lead.Loop = nothing
-completes lead.If = nothing
-completes lead.Else = nothing
-completes lead.End = nothing
+completes opcode.Block = nothing
+completes opcode.Loop = nothing
+completes opcode.If = nothing
+completes opcode.Else = nothing
+completes opcode.End = nothing
 
 -- an instruction without bodies
 abbrev pub single : Rule (Expression → Expression)
 single = do
-  l ← opcode
+  l ← an_opcode
   completes l
 
 abbrev pub IsSingle : (Expression → Expression) → List ℕ → Type 0
@@ -108,13 +109,13 @@ abbrev pub block_type : Rule (Option ValueKind)
 block_type = one_of no_kind block_types
 
 -- an instruction with one body, which ends with `end`
-abbrev pub Encloses : Lead → Option ValueKind → (List ℕ → Type 0) → List ℕ → Type 0
-Encloses l kind body bytes = (opcode : ℕ) × (close : ℕ) × (inner : List ℕ) × Leads opcode l × Leads close lead.End × body inner × (bytes ≡ opcode ∷ kind_byte kind ∷ (inner ++ close ∷ []))
+abbrev pub Encloses : Opcode → Option ValueKind → (List ℕ → Type 0) → List ℕ → Type 0
+Encloses l kind body bytes = (head : ℕ) × (close : ℕ) × (inner : List ℕ) × IsOpcodeOf head l × IsOpcodeOf close opcode.End × body inner × (bytes ≡ head ∷ kind_byte kind ∷ (inner ++ close ∷ []))
 
 -- an instruction with two bodies, between which `else` stands
 abbrev pub Branches : Option ValueKind → (one two : List ℕ → Type 0) → List ℕ → Type 0
-Branches kind one two bytes = (opcode : ℕ) × (middle : ℕ) × (close : ℕ) × (first : List ℕ) × (second : List ℕ) × Leads opcode lead.If × Leads middle lead.Else × Leads close lead.End × one first × two second
-    × (bytes ≡ opcode ∷ kind_byte kind ∷ (first ++ middle ∷ (second ++ close ∷ [])))
+Branches kind one two bytes = (head : ℕ) × (middle : ℕ) × (close : ℕ) × (first : List ℕ) × (second : List ℕ) × IsOpcodeOf head opcode.If × IsOpcodeOf middle opcode.Else × IsOpcodeOf close opcode.End × one first × two second
+    × (bytes ≡ head ∷ kind_byte kind ∷ (first ++ middle ∷ (second ++ close ∷ [])))
 
 -- Instructions one after another, in which blocks are nested so deep at most. An `if` whose second body is empty may lack
 -- its `else`.
@@ -131,11 +132,11 @@ Spells depth (MemoryGrow rest) bytes = Before (IsSingle MemoryGrow) (Spells dept
 Spells zero (Block kind body rest) bytes = ⊥
 Spells zero (Loop kind body rest) bytes = ⊥
 Spells zero (If kind one two rest) bytes = ⊥
-Spells (suc depth) (Block kind body rest) bytes = Before (Encloses lead.Block kind (Spells depth body)) (Spells (suc depth) rest) bytes
-Spells (suc depth) (Loop kind body rest) bytes = Before (Encloses lead.Loop kind (Spells depth body)) (Spells (suc depth) rest) bytes
+Spells (suc depth) (Block kind body rest) bytes = Before (Encloses opcode.Block kind (Spells depth body)) (Spells (suc depth) rest) bytes
+Spells (suc depth) (Loop kind body rest) bytes = Before (Encloses opcode.Loop kind (Spells depth body)) (Spells (suc depth) rest) bytes
 Spells (suc depth) (If kind one two rest) bytes =
-    Before (λ a. ((two ≡ Over) × Encloses lead.If kind (Spells depth one) a) ⊎ Branches kind (Spells depth one) (Spells depth two) a) (Spells (suc depth) rest) bytes
+    Before (λ a. ((two ≡ Over) × Encloses opcode.If kind (Spells depth one) a) ⊎ Branches kind (Spells depth one) (Spells depth two) a) (Spells (suc depth) rest) bytes
 
 -- an expression (section 5.4.6): instructions, and `end`
 abbrev pub IsExpression : (depth : ℕ) → Expression → List ℕ → Type 0
-IsExpression depth e bytes = (inner : List ℕ) × (close : ℕ) × Spells depth e inner × Leads close lead.End × (bytes ≡ inner ++ close ∷ [])
+IsExpression depth e bytes = (inner : List ℕ) × (close : ℕ) × Spells depth e inner × IsOpcodeOf close opcode.End × (bytes ≡ inner ++ close ∷ [])

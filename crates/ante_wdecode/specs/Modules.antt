@@ -15,16 +15,17 @@ use Rattle.ante_wtree.specs.declared.modules.ExportKind.TheVariants as external
 use Rattle.ante_wtree.specs.declared.modules.Export.{Export}
 use Rattle.ante_wtree.specs.declared.modules.Element.{Element}
 use Rattle.ante_wtree.specs.declared.modules.Segment.{Segment}
+use Rattle.ante_wtree.specs.Limits.{most_params, most_table_elements, most_nested_blocks, most_locals}
 use Rattle.ante_wtree.specs.Trees.{Body}
 use Rattle.ante_wdecode.specs.declared.fault.DecodeKind.TheVariants as kind
-use Rattle.ante_wdecode.specs.declared.opcodes.Lead.{Lead}
-use Rattle.ante_wdecode.specs.declared.opcodes.Lead.TheVariants as lead
+use Rattle.ante_wdecode.specs.declared.opcodes.Opcode.{Opcode}
+use Rattle.ante_wdecode.specs.declared.opcodes.Opcode.TheVariants as opcode
 use Rattle.ante_wdecode.specs.declared.opcodes.Indexed.TheVariants as indexed
 use Rattle.ante_wdecode.specs.Rules.{Rule, yields, nothing, only, one_of, form, byte, raw, filling, misfit_of, u32, s32, s64, limited, exactly}
-use Rattle.ante_wdecode.specs.Turns.{◌>>=◌}
-use Rattle.ante_wdecode.specs.Opcodes.{opcode, value_type}
+use Rattle.ante_wdecode.specs.InTurn.{◌>>=◌}
+use Rattle.ante_wdecode.specs.Opcodes.{an_opcode, value_type}
 use Rattle.ante_wdecode.specs.Instructions.{vector}
-use Rattle.ante_wdecode.specs.Reading.{expression}
+use Rattle.ante_wdecode.specs.NestedInstructions.{expression}
 
 -- as many as a u32 can say
 abbrev pub any : ℕ
@@ -40,7 +41,7 @@ name = do
 abbrev pub func_type : Rule FuncType
 func_type = do
   head ← byte 0x60
-  params ← vector 4096 value_type
+  params ← vector most_params value_type
   results ← vector any value_type
   yields (record { params = params; results = results })
 
@@ -73,7 +74,7 @@ table_type most = do
 
 -- the type of a table of the module's own, or of a memory
 abbrev pub sized_type : (of_table : Bool) → Rule Limits
-sized_type true = table_type 8192
+sized_type true = table_type most_table_elements
 sized_type false = limits any
 
 -- what an import or an export is
@@ -108,33 +109,33 @@ import = do
   yields (record { «module» = from; name = item; kind = desc })
 
 -- a constant expression (section 3.3.7.2)
-abbrev pub is_init : Lead → Bool
-is_init lead.I32Const = true
-is_init lead.I64Const = true
-is_init (lead.Indexed indexed.GlobalGet) = true
+abbrev pub is_init : Opcode → Bool
+is_init opcode.I32Const = true
+is_init opcode.I64Const = true
+is_init (opcode.Indexed indexed.GlobalGet) = true
 is_init l = false
 
-abbrev pub is_end : Lead → Bool
-is_end lead.End = true
+abbrev pub is_end : Opcode → Bool
+is_end opcode.End = true
 is_end l = false
 
-abbrev pub init_of : Lead → Rule Init
-init_of lead.I32Const = do
+abbrev pub init_of : Opcode → Rule Init
+init_of opcode.I32Const = do
   n ← s32
   yields (init.Const32 n)
-init_of lead.I64Const = do
+init_of opcode.I64Const = do
   n ← s64
   yields (init.Const64 n)
-init_of (lead.Indexed indexed.GlobalGet) = do
+init_of (opcode.Indexed indexed.GlobalGet) = do
   n ← u32
   yields (init.GlobalGet n)
 init_of l = nothing
 
 abbrev pub const_expr : Rule Init
 const_expr = do
-  l ← only (λ l. is_init l ≡ true) is_init kind.Form opcode
+  l ← only (λ l. is_init l ≡ true) is_init kind.Form an_opcode
   value ← init_of l
-  end ← only (λ l. is_end l ≡ true) is_end kind.Form opcode
+  end ← only (λ l. is_end l ≡ true) is_end kind.Form an_opcode
   yields value
 
 -- global (section 5.5.9)
@@ -184,7 +185,7 @@ abbrev pub func : (most : ℕ) → Rule Body
 func most = do
   n ← u32
   locals ← groups most n
-  body ← expression 1024
+  body ← expression most_nested_blocks
   yields (record { locals = locals; body = body })
 
 -- code (section 5.5.13): the size of a function, and the function, in just so many bytes
@@ -198,10 +199,10 @@ abbrev pub params_of : Option FuncType → ℕ
 params_of None = 0
 params_of (Some t) = length t.params
 
--- a body for each function, given by the number of its type; 4,096 parameters and locals at most
+-- a body for each function, given by the number of its type; at most so many parameters and locals
 abbrev pub codes : List FuncType → List ℕ → Rule (List Body)
 codes types [] = yields []
 codes types (n ∷ ns) = do
-  body ← code (4096 - params_of (slice_get types n))
+  body ← code (most_locals - params_of (slice_get types n))
   more ← codes types ns
   yields (body ∷ more)

@@ -6,8 +6,8 @@ use Rattle.ante_wnum.specs.declared.Compare.TheVariants as compare
 use Rattle.ante_wtree.specs.declared.instructions.LoadKind.TheVariants as load
 use Rattle.ante_wtree.specs.declared.instructions.StoreKind.TheVariants as store
 use Rattle.ante_wtree.specs.declared.instructions.PlainInstr.TheVariants as plain
-use Rattle.ante_wdecode.specs.declared.opcodes.Lead.{Lead}
-use Rattle.ante_wdecode.specs.declared.opcodes.Lead.TheVariants.{Fixed, Indexed, Load, Store, MemorySize, MemoryGrow, I32Const, I64Const, Br, BrIf, BrTable, Return, Call, CallIndirect, Block, Loop, If, Else, End}
+use Rattle.ante_wdecode.specs.declared.opcodes.Opcode.{Opcode}
+use Rattle.ante_wdecode.specs.declared.opcodes.Opcode.TheVariants.{Fixed, Indexed, Load, Store, MemorySize, MemoryGrow, I32Const, I64Const, Br, BrIf, BrTable, Return, Call, CallIndirect, Block, Loop, If, Else, End}
 use Rattle.ante_wdecode.specs.declared.opcodes.Indexed.TheVariants as indexed
 use Rattle.ante_wtree.specs.declared.instructions.ValueKind.{ValueKind}
 use Rattle.ante_wtree.specs.declared.instructions.ValueKind.TheVariants.{I32, I64}
@@ -15,7 +15,7 @@ use Rattle.ante_wdecode.specs.declared.fault.DecodeKind.{DecodeKind}
 use Rattle.ante_wdecode.specs.declared.fault.DecodeKind.TheVariants as kind
 use Rattle.ante_wdecode.specs.Rules.{Rule, among, one_of}
 
-abbrev pub i64_numbers : List (ℕ × Lead)
+abbrev pub i64_numbers : List (ℕ × Opcode)
 i64_numbers =
     (0x79, Fixed (plain.I64Unary unary.Clz)) ∷
     (0x7A, Fixed (plain.I64Unary unary.Ctz)) ∷
@@ -40,7 +40,7 @@ i64_numbers =
     (0xAD, Fixed plain.I64ExtendI32U) ∷
     []
 
-abbrev pub i32_numbers : List (ℕ × Lead)
+abbrev pub i32_numbers : List (ℕ × Opcode)
 i32_numbers =
     (0x67, Fixed (plain.I32Unary unary.Clz)) ∷
     (0x68, Fixed (plain.I32Unary unary.Ctz)) ∷
@@ -62,7 +62,7 @@ i32_numbers =
     (0x78, Fixed (plain.I32Binary binary.Rotr)) ∷
     i64_numbers
 
-abbrev pub comparisons : List (ℕ × Lead)
+abbrev pub comparisons : List (ℕ × Opcode)
 comparisons =
     (0x45, Fixed plain.I32Eqz) ∷
     (0x46, Fixed (plain.I32Compare compare.Eq)) ∷
@@ -88,7 +88,7 @@ comparisons =
     (0x5A, Fixed (plain.I64Compare compare.GeU)) ∷
     i32_numbers
 
-abbrev pub memory : List (ℕ × Lead)
+abbrev pub memory : List (ℕ × Opcode)
 memory =
     (0x28, Load load.I32) ∷
     (0x29, Load load.I64) ∷
@@ -115,7 +115,7 @@ memory =
     (0x42, I64Const) ∷
     comparisons
 
-abbrev pub opcodes : List (ℕ × Lead)
+abbrev pub opcodes : List (ℕ × Opcode)
 opcodes =
     (0x00, Fixed plain.Unreachable) ∷
     (0x01, Fixed plain.Nop) ∷
@@ -139,9 +139,9 @@ opcodes =
     (0x24, Indexed indexed.GlobalSet) ∷
     memory
 
--- The byte is the opcode of this lead.
-abbrev pub Leads : ℕ → Lead → Type 0
-Leads byte lead = among opcodes byte ≡ Some lead
+-- The byte is this opcode.
+abbrev pub IsOpcodeOf : ℕ → Opcode → Type 0
+IsOpcodeOf byte opcode = among opcodes byte ≡ Some opcode
 
 abbrev pub is_between : (low high byte : ℕ) → Bool
 is_between low high byte = nat_le low byte && nat_le byte high
@@ -156,8 +156,8 @@ is_float byte =
 abbrev pub no_opcode : ℕ → DecodeKind
 no_opcode byte = if is_float byte then kind.Float else kind.Opcode
 
-abbrev pub opcode : Rule Lead
-opcode = one_of no_opcode opcodes
+abbrev pub an_opcode : Rule Opcode
+an_opcode = one_of no_opcode opcodes
 
 -- what is wrong with a byte that is no kind of values, of which 7C and 7D are the floating-point ones
 abbrev pub no_kind : ℕ → DecodeKind

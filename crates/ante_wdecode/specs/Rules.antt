@@ -7,7 +7,7 @@ use Rattle.ante_wdecode.specs.declared.fault.Unread.{Unread}
 use Rattle.ante_wdecode.specs.declared.fault.Unread.TheVariants as unread
 use Rattle.ante_wdecode.specs.declared.integers.Misread.{Misread}
 use Rattle.ante_wdecode.specs.declared.integers.Misread.TheVariants as misread
-use Rattle.ante_wdecode.specs.Integers.{◌>>=◌, IsU32, IsS32, IsS64, u32_at, s32_at, s64_at}
+use Rattle.ante_wdecode.specs.Leb128.{◌>>=◌, IsU32, IsS32, IsS64, u32_at, s32_at, s64_at}
 
 -- What is wrong with some bytes: the item that begins with the last `left` of them isn't whole, or is at fault.
 pub data Fault : Type 0 where
@@ -144,9 +144,9 @@ Fails (unread.Ended left) read = read ≡ Err (Ended left)
 Fails (unread.Fault left kind) read = read ≡ Err (At left kind)
 
 -- What a call answers, seen by view, is what is read, unless memory runs out.
-abbrev pub Gives : {X Y : Type 0} → (X → Y) → Result X Unread → Result Y Fault → Type 0
-Gives view (Ok x) read = read ≡ Ok (view x)
-Gives view (Err e) read = Fails e read
+abbrev pub ReadsAs : {X Y : Type 0} → (X → Y) → Result X Unread → Result Y Fault → Type 0
+ReadsAs view (Ok x) read = read ≡ Ok (view x)
+ReadsAs view (Err e) read = Fails e read
 
 -- ---- what a call answers of a part, before so many bytes
 

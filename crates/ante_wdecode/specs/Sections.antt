@@ -9,6 +9,7 @@ use Rattle.ante_wtree.specs.declared.modules.Global.{Global}
 use Rattle.ante_wtree.specs.declared.modules.Export.{Export}
 use Rattle.ante_wtree.specs.declared.modules.Element.{Element}
 use Rattle.ante_wtree.specs.declared.modules.Segment.{Segment}
+use Rattle.ante_wtree.specs.Limits.{most_module_bytes, most_types, most_imports, most_functions, most_table_elements, most_globals, most_exports, most_element_segments, most_data_segments}
 use Rattle.ante_wtree.specs.Trees.{Body, Tree, body_of}
 use Rattle.ante_wdecode.specs.declared.fault.DecodeKind.{DecodeKind}
 use Rattle.ante_wdecode.specs.declared.fault.DecodeKind.TheVariants as kind
@@ -17,7 +18,7 @@ use Rattle.ante_wdecode.specs.declared.sections.SectionId.TheVariants as id
 use Rattle.ante_wdecode.specs.declared.sections.Contents.{Contents}
 use Rattle.ante_wdecode.specs.declared.sections.Contents.TheVariants as made
 use Rattle.ante_wdecode.specs.Rules.{Fault, Read, Rule, yields, only, one_of, filling, misfit_of, u32, exactly}
-use Rattle.ante_wdecode.specs.Turns.{◌>>=◌}
+use Rattle.ante_wdecode.specs.InTurn.{◌>>=◌}
 use Rattle.ante_wdecode.specs.Instructions.{vector}
 use Rattle.ante_wdecode.specs.Modules.{any, name, func_type, limits, table_type, import, global, export, element, segment, codes}
 
@@ -115,37 +116,37 @@ bodies m = do
 abbrev pub contents : Tree → SectionId → Rule Section
 contents m id.Custom = custom
 contents m id.Types = do
-  x ← vector 1024 func_type
+  x ← vector most_types func_type
   yields (Types x)
 contents m id.Imports = do
-  x ← vector 8192 import
+  x ← vector most_imports import
   yields (Imports x)
 contents m id.Functions = do
-  x ← vector (8192 - imported m.imports) u32
+  x ← vector (most_functions - imported m.imports) u32
   yields (Functions x)
 contents m id.Tables = do
-  x ← vector any (table_type 8192)
+  x ← vector any (table_type most_table_elements)
   yields (Tables x)
 contents m id.Memories = do
   x ← vector any (limits any)
   yields (Memories x)
 contents m id.Globals = do
-  x ← vector 1024 global
+  x ← vector most_globals global
   yields (Globals x)
 contents m id.Exports = do
-  x ← vector 8192 export
+  x ← vector most_exports export
   yields (Exports x)
 contents m id.Start = do
   x ← u32
   yields (Start x)
 contents m id.Elements = do
-  x ← vector 1024 element
+  x ← vector most_element_segments element
   yields (Elements x)
 contents m id.Codes = do
   x ← bodies m
   yields (Codes x)
 contents m id.Segments = do
-  x ← vector 1024 segment
+  x ← vector most_data_segments segment
   yields (Segments x)
 
 abbrev pub number_of : SectionId → ℕ
@@ -215,6 +216,6 @@ version = 0x01 ∷ 0x00 ∷ 0x00 ∷ 0x00 ∷ []
 
 -- These bytes encode this module (section 5.5.15): magic, version, and sections; a body for each function.
 pub record Encodes (m : Tree) (code : List ℕ) : Type 0 where
-  pub size : length code ≤ 1048576
+  pub size : length code ≤ most_module_bytes
   pub sections : (ss : List (SectionId × Section)) × (rest : List ℕ) × AreSections 0 bare ss m rest × (code ≡ magic ++ version ++ rest)
   pub bodies : length m.functions ≡ length m.codes

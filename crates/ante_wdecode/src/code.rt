@@ -1,6 +1,7 @@
 ghost use Rattle.std.specs.Prelude.{◌≡◌, ◌++◌, ◌-◌, None, map, slice_get, replicate, OnOk};
+ghost use Rattle.ante_wtree.specs.Limits.{most_locals};
 ghost use Rattle.ante_wtree.specs.Trees.{body_of};
-ghost use Rattle.ante_wdecode.specs.Rules.{Gives, filling, misfit_of};
+ghost use Rattle.ante_wdecode.specs.Rules.{ReadsAs, filling, misfit_of};
 ghost use Rattle.ante_wdecode.specs.Modules.{groups, func, code, params_of, codes};
 
 use crate::fault::{Unread, ended, misfit, moved};
@@ -8,12 +9,9 @@ use crate::items::{limited_number, number};
 use crate::nested::read_expression;
 use crate::types::read_kind;
 use ante_pack::Seq;
+use ante_wtree::limits::{MOST_LOCALS, MOST_NESTED_BLOCKS};
 use ante_wtree::{Code, FuncType, ValueKind};
 use std::alloc::{AllocError, Global};
-
-const MOST_NESTED: u32 = 1024;
-
-const MOST_LOCALS: u32 = 4096;
 
 fn push_locals(
     locals: &mut Seq<ValueKind>,
@@ -35,7 +33,7 @@ fn read_groups(
     count: u32,
     bytes: &[u8],
 ) -> Result<(Seq<ValueKind>, &[u8]), Unread>
-    ensures { Gives (λ x. (x.0, x.1.now)) result ((groups most count).read bytes.now) }
+    ensures { ReadsAs (λ x. (x.0, x.1.now)) result ((groups most count).read bytes.now) }
 {
     let mut locals = Seq::new(alloc);
     let mut left = most;
@@ -51,16 +49,16 @@ fn read_groups(
 }
 
 fn read_func(alloc: Global, most: u32, bytes: &[u8]) -> Result<(Code, &[u8]), Unread>
-    ensures { Gives (λ x. (body_of x.0, x.1.now)) result ((func most).read bytes.now) }
+    ensures { ReadsAs (λ x. (body_of x.0, x.1.now)) result ((func most).read bytes.now) }
 {
     let (count, rest) = number(bytes)?;
     let (locals, rest) = read_groups(alloc, most, count, rest)?;
-    let (body, rest) = read_expression(alloc, MOST_NESTED, rest)?;
+    let (body, rest) = read_expression(alloc, MOST_NESTED_BLOCKS, rest)?;
     Ok((Code { locals, body }, rest))
 }
 
 fn read_part(alloc: Global, most: u32, size: u32, bytes: &[u8]) -> Result<(Code, &[u8]), Unread>
-    ensures { Gives (λ x. (body_of x.0, x.1.now)) result ((filling (misfit_of None) size (func most)).read bytes.now) }
+    ensures { ReadsAs (λ x. (body_of x.0, x.1.now)) result ((filling (misfit_of None) size (func most)).read bytes.now) }
 {
     let size = size as usize;
     if bytes.len() < size {
@@ -79,24 +77,24 @@ fn read_part(alloc: Global, most: u32, size: u32, bytes: &[u8]) -> Result<(Code,
 }
 
 fn read_code(alloc: Global, most: u32, bytes: &[u8]) -> Result<(Code, &[u8]), Unread>
-    ensures { Gives (λ x. (body_of x.0, x.1.now)) result ((code most).read bytes.now) }
+    ensures { ReadsAs (λ x. (body_of x.0, x.1.now)) result ((code most).read bytes.now) }
 {
     let (size, rest) = number(bytes)?;
     read_part(alloc, most, size, rest)
 }
 
 fn locals_beside(params: usize) -> u32
-    ensures { result ≡ 4096 - params }
+    ensures { result ≡ most_locals - params }
 {
-    if params < 4096 {
+    if params < MOST_LOCALS as usize {
         MOST_LOCALS - params as u32
     } else {
         0
     }
 }
 
-fn most_locals(types: &[FuncType], n: u32) -> u32
-    ensures { result ≡ 4096 - params_of (slice_get types.now n) }
+fn locals_of_type(types: &[FuncType], n: u32) -> u32
+    ensures { result ≡ most_locals - params_of (slice_get types.now n) }
 {
     match types.get(n as usize) {
         Some(func_type) => locals_beside(func_type.params.len()),
@@ -111,12 +109,12 @@ pub fn read_codes<'a>(
     functions: &[u32],
     bytes: &'a [u8],
 ) -> Result<(Seq<Code>, &'a [u8]), Unread>
-    ensures { Gives (λ x. (map body_of x.0, x.1.now)) result ((codes types.now functions.now).read bytes.now) }
+    ensures { ReadsAs (λ x. (map body_of x.0, x.1.now)) result ((codes types.now functions.now).read bytes.now) }
 {
     let mut codes = Seq::new(alloc);
     let mut rest = bytes;
     for n in functions {
-        let most = most_locals(types, *n);
+        let most = locals_of_type(types, *n);
         let (code, after) = read_code(alloc, most, rest)?;
         codes.push(alloc, code)?;
         rest = after;

@@ -3,35 +3,47 @@ ghost use Rattle.ante_wdecode.specs.Rules.{misfit_of, answered, left_of, moved_a
 ghost use Rattle.ante_wdecode.specs.declared.fault.Unread.TheVariants.{OutOfMemory};
 
 use std::alloc::{AllocError, AllocFailed};
+use thiserror::Error;
 
 /// What is wrong with the bytes of a module.
-#[derive(Clone, Copy, PartialEq, Eq, Debug)]
+#[derive(Clone, Copy, PartialEq, Eq, Debug, Error)]
 pub enum DecodeKind {
     /// Not the magic or the version.
+    #[error("not the magic or the version")]
     Magic,
     /// An unknown, repeated or misplaced section, or one whose contents don't end at its size.
+    #[error("malformed section")]
     Section,
     /// An integer of too many bytes, or with bits that its width doesn't have.
+    #[error("malformed integer")]
     Leb,
     /// A byte that is no opcode.
+    #[error("unknown opcode")]
     Opcode,
     /// A floating-point opcode or kind.
+    #[error("floating-point opcode or type")]
     Float,
     /// A name that isn't UTF-8.
+    #[error("name that is not UTF-8")]
     Utf8,
     /// Another byte that the grammar doesn't have in its place, or counts that differ.
+    #[error("unexpected byte or count")]
     Form,
     /// Fewer bytes than the magic, the version, a section's size or its contents take.
+    #[error("unexpected end")]
     Short,
     /// More than the profile allows.
+    #[error("limit exceeded")]
     Limit,
 }
 
 /// Why a module can't be read: the first fault, at the first byte of its item. An item that goes past its section's end is
 /// at fault as `Section`, at the section's number, and one that goes past its body's end as `Form`, where it begins.
-#[derive(Clone, Copy, PartialEq, Eq, Debug)]
+#[derive(Clone, Copy, PartialEq, Eq, Debug, Error)]
 pub enum DecodeError {
+    #[error("out of memory")]
     OutOfMemory,
+    #[error("{kind} at byte {at}")]
     Fault { at: usize, kind: DecodeKind },
 }
 

@@ -1,5 +1,5 @@
 ghost use Rattle.std.specs.Prelude.{◌≡◌, ◌<◌, ◌≤◌, ◌^◌, true, false};
-ghost use Rattle.ante_wdecode.specs.Integers.{last_value, more_value, leb_at, seen, u32_at, s32_at, s64_at};
+ghost use Rattle.ante_wdecode.specs.Leb128.{last_value, more_value, leb_at, seen, u32_at, s32_at, s64_at};
 
 /// Why no integer stands at the front of some bytes.
 #[derive(Clone, Copy, PartialEq, Eq, Debug)]

@@ -1,5 +1,5 @@
 ghost use Rattle.std.specs.Prelude.{◌≡◌, ◌≤◌, List};
-ghost use Rattle.ante_wdecode.specs.Rules.{Rule, Gives, u32, s32, s64, limited, byte, items};
+ghost use Rattle.ante_wdecode.specs.Rules.{Rule, ReadsAs, u32, s32, s64, limited, byte, items};
 ghost use Rattle.ante_wdecode.specs.Instructions.{vector};
 
 use crate::fault::{DecodeKind, Unread, ended, fault};
@@ -12,11 +12,11 @@ pub trait Item: Drop {
     ghost rule: { Rule Self };
 
     fn read(alloc: Global, bytes: &[u8]) -> Result<(Self, &[u8]), Unread>
-        ensures { Gives (λ x. (x.0, x.1.now)) result (rule.read bytes.now) };
+        ensures { ReadsAs (λ x. (x.0, x.1.now)) result (rule.read bytes.now) };
 }
 
 pub fn number(bytes: &[u8]) -> Result<(u32, &[u8]), Unread>
-    ensures { Gives (λ x. (x.0, x.1.now)) result (u32.read bytes.now) }
+    ensures { ReadsAs (λ x. (x.0, x.1.now)) result (u32.read bytes.now) }
 {
     match read_u32(bytes) {
         Ok((value, rest)) => Ok((value, rest)),
@@ -26,7 +26,7 @@ pub fn number(bytes: &[u8]) -> Result<(u32, &[u8]), Unread>
 }
 
 pub fn signed32(bytes: &[u8]) -> Result<(u32, &[u8]), Unread>
-    ensures { Gives (λ x. (x.0, x.1.now)) result (s32.read bytes.now) }
+    ensures { ReadsAs (λ x. (x.0, x.1.now)) result (s32.read bytes.now) }
 {
     match read_s32(bytes) {
         Ok((value, rest)) => Ok((value, rest)),
@@ -36,7 +36,7 @@ pub fn signed32(bytes: &[u8]) -> Result<(u32, &[u8]), Unread>
 }
 
 pub fn signed64(bytes: &[u8]) -> Result<(u64, &[u8]), Unread>
-    ensures { Gives (λ x. (x.0, x.1.now)) result (s64.read bytes.now) }
+    ensures { ReadsAs (λ x. (x.0, x.1.now)) result (s64.read bytes.now) }
 {
     match read_s64(bytes) {
         Ok((value, rest)) => Ok((value, rest)),
@@ -46,7 +46,7 @@ pub fn signed64(bytes: &[u8]) -> Result<(u64, &[u8]), Unread>
 }
 
 pub fn limited_number(most: u32, bytes: &[u8]) -> Result<(u32, &[u8]), Unread>
-    ensures { Gives (λ x. (x.0, x.1.now)) result ((limited most).read bytes.now) }
+    ensures { ReadsAs (λ x. (x.0, x.1.now)) result ((limited most).read bytes.now) }
 {
     let (count, rest) = number(bytes)?;
     if most < count {
@@ -56,7 +56,7 @@ pub fn limited_number(most: u32, bytes: &[u8]) -> Result<(u32, &[u8]), Unread>
 }
 
 pub fn this_byte(wanted: u8, bytes: &[u8]) -> Result<&[u8], Unread>
-    ensures { Gives (λ x. (tt, x.now)) result ((byte wanted).read bytes.now) }
+    ensures { ReadsAs (λ x. (tt, x.now)) result ((byte wanted).read bytes.now) }
 {
     let Some((first, rest)) = bytes.split_first() else {
         return Err(ended(bytes));
@@ -74,7 +74,7 @@ pub fn read_items<T: Item>(
     count: u32,
     bytes: &[u8],
 ) -> Result<(Seq<T>, &[u8]), Unread>
-    ensures { Gives (λ x. (x.0, x.1.now)) result ((items count T.rule).read bytes.now) }
+    ensures { ReadsAs (λ x. (x.0, x.1.now)) result ((items count T.rule).read bytes.now) }
 {
     let mut items = Seq::new(alloc);
     let mut rest = bytes;
@@ -92,7 +92,7 @@ pub fn read_vector<T: Item>(
     most: u32,
     bytes: &[u8],
 ) -> Result<(Seq<T>, &[u8]), Unread>
-    ensures { Gives (λ x. (x.0, x.1.now)) result ((vector most T.rule).read bytes.now) }
+    ensures { ReadsAs (λ x. (x.0, x.1.now)) result ((vector most T.rule).read bytes.now) }
 {
     let (count, rest) = limited_number(most, bytes)?;
     read_items(alloc, count, rest)

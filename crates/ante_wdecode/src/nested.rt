@@ -1,11 +1,11 @@
 ghost use Rattle.std.specs.Prelude.{◌≡◌, ℕ, ◌<◌, ◌≤◌, length};
-ghost use Rattle.ante_wtree.specs.Expressions.{put, expression_of, If};
-ghost use Rattle.ante_wdecode.specs.Rules.{Gives, among};
+ghost use Rattle.ante_wtree.specs.Expressions.{cons, expression_of, If};
+ghost use Rattle.ante_wdecode.specs.Rules.{ReadsAs, among};
 ghost use Rattle.ante_wdecode.specs.Instructions.{block_types, block_type};
-ghost use Rattle.ante_wdecode.specs.Reading.{Sequence, body_at, block_at, if_at, deeper, item_at, item_of, inside, seq_at, block_of, expression};
+ghost use Rattle.ante_wdecode.specs.NestedInstructions.{Sequence, body_at, block_within, if_within, item_at, item_of, inside, seq_at, block_of, expression};
 
 use crate::fault::{DecodeKind, Unread, ended, fault};
-use crate::opcodes::{Lead, not_a_kind, read_opcode};
+use crate::opcodes::{Opcode, not_a_kind, read_opcode};
 use crate::single::rest_of;
 use ante_wtree::{Instr, ValueKind};
 use std::alloc::Global;
@@ -29,7 +29,7 @@ fn block_type_of(byte: u8) -> Option<Option<ValueKind>>
 }
 
 fn result_kind(bytes: &[u8]) -> Result<(Option<ValueKind>, &[u8]), Unread>
-    ensures { Gives (λ x. (x.0, x.1.now)) result (block_type.read bytes.now) }
+    ensures { ReadsAs (λ x. (x.0, x.1.now)) result (block_type.read bytes.now) }
 {
     let Some((first, rest)) = bytes.split_first() else {
         return Err(ended(bytes));
@@ -42,7 +42,7 @@ fn result_kind(bytes: &[u8]) -> Result<(Option<ValueKind>, &[u8]), Unread>
 
 #[cycle(sequence)]
 fn sequence(alloc: Global, depth: u32, bytes: &[u8]) -> Result<(Vec<Instr>, bool, &[u8]), Unread>
-    ensures { (n : ℕ) → length bytes.now < n → Gives {Y = Sequence} (λ x. (expression_of x.0.items, x.1, x.2.now)) result (seq_at n depth bytes.now) }
+    ensures { (n : ℕ) → length bytes.now < n → ReadsAs {Y = Sequence} (λ x. (expression_of x.0.items, x.1, x.2.now)) result (seq_at n depth bytes.now) }
 {
     let mut front = Vec::new(alloc);
     let mut rest = bytes;
@@ -60,7 +60,7 @@ fn sequence(alloc: Global, depth: u32, bytes: &[u8]) -> Result<(Vec<Instr>, bool
 
 #[cycle(sequence)]
 fn body(alloc: Global, depth: u32, bytes: &[u8]) -> Result<(Vec<Instr>, &[u8]), Unread>
-    ensures { (n : ℕ) → length bytes.now < n → Gives (λ x. (expression_of x.0.items, x.1.now)) result (body_at (seq_at n depth) bytes.now) }
+    ensures { (n : ℕ) → length bytes.now < n → ReadsAs (λ x. (expression_of x.0.items, x.1.now)) result (body_at (seq_at n depth) bytes.now) }
 {
     let (body, by_else, rest) = sequence(alloc, depth, bytes)?;
     if by_else {
@@ -73,7 +73,7 @@ fn body(alloc: Global, depth: u32, bytes: &[u8]) -> Result<(Vec<Instr>, &[u8]), 
 }
 
 fn block_instr(looped: bool, kind: Option<ValueKind>, body: Vec<Instr>) -> Instr
-    ensures { put result ≡ block_of looped kind (expression_of body.items) }
+    ensures { cons result ≡ block_of looped kind (expression_of body.items) }
 {
     if looped {
         Instr::Loop(kind, body)
@@ -83,14 +83,14 @@ fn block_instr(looped: bool, kind: Option<ValueKind>, body: Vec<Instr>) -> Instr
 }
 
 fn if_instr(kind: Option<ValueKind>, one: Vec<Instr>, two: Vec<Instr>) -> Instr
-    ensures { put result ≡ If kind (expression_of one.items) (expression_of two.items) }
+    ensures { cons result ≡ If kind (expression_of one.items) (expression_of two.items) }
 {
     Instr::If(kind, one, two)
 }
 
 #[cycle(sequence)]
 fn block(alloc: Global, depth: u32, looped: bool, bytes: &[u8]) -> Result<(Instr, &[u8]), Unread>
-    ensures { (n : ℕ) → length bytes.now < n → Gives (λ x. (put x.0, x.1.now)) result (deeper depth bytes.now (block_at (block_of looped) (inside (seq_at n) depth) bytes.now)) }
+    ensures { (n : ℕ) → length bytes.now < n → ReadsAs (λ x. (cons x.0, x.1.now)) result (block_within looped n depth bytes.now) }
 {
     if depth == 0 {
         return Err(Unread::Fault {
@@ -105,7 +105,7 @@ fn block(alloc: Global, depth: u32, looped: bool, bytes: &[u8]) -> Result<(Instr
 
 #[cycle(sequence)]
 fn choice(alloc: Global, depth: u32, bytes: &[u8]) -> Result<(Instr, &[u8]), Unread>
-    ensures { (n : ℕ) → length bytes.now < n → Gives (λ x. (put x.0, x.1.now)) result (deeper depth bytes.now (if_at (inside (seq_at n) depth) bytes.now)) }
+    ensures { (n : ℕ) → length bytes.now < n → ReadsAs (λ x. (cons x.0, x.1.now)) result (if_within n depth bytes.now) }
 {
     if depth == 0 {
         return Err(Unread::Fault {
@@ -124,21 +124,21 @@ fn choice(alloc: Global, depth: u32, bytes: &[u8]) -> Result<(Instr, &[u8]), Unr
 
 #[cycle(sequence)]
 fn next_part(alloc: Global, depth: u32, bytes: &[u8]) -> Result<(Part, &[u8]), Unread>
-    ensures { (n : ℕ) → length bytes.now ≤ n → Gives (λ x. (item_of x.0, x.1.now)) result (item_at depth (inside (seq_at n) depth) bytes.now) }
+    ensures { (n : ℕ) → length bytes.now ≤ n → ReadsAs (λ x. (item_of x.0, x.1.now)) result (item_at depth (inside (seq_at n) depth) bytes.now) }
 {
-    let (lead, rest) = read_opcode(bytes)?;
-    match lead {
-        Lead::Else => Ok((Part::Ends(true), rest)),
-        Lead::End => Ok((Part::Ends(false), rest)),
-        Lead::Block => {
+    let (opcode, rest) = read_opcode(bytes)?;
+    match opcode {
+        Opcode::Else => Ok((Part::Ends(true), rest)),
+        Opcode::End => Ok((Part::Ends(false), rest)),
+        Opcode::Block => {
             let (instr, rest) = block(alloc, depth, false, rest)?;
             Ok((Part::One(instr), rest))
         }
-        Lead::Loop => {
+        Opcode::Loop => {
             let (instr, rest) = block(alloc, depth, true, rest)?;
             Ok((Part::One(instr), rest))
         }
-        Lead::If => {
+        Opcode::If => {
             let (instr, rest) = choice(alloc, depth, rest)?;
             Ok((Part::One(instr), rest))
         }
@@ -155,7 +155,7 @@ pub fn read_expression(
     depth: u32,
     bytes: &[u8],
 ) -> Result<(Vec<Instr>, &[u8]), Unread>
-    ensures { Gives (λ x. (expression_of x.0.items, x.1.now)) result ((expression depth).read bytes.now) }
+    ensures { ReadsAs (λ x. (expression_of x.0.items, x.1.now)) result ((expression depth).read bytes.now) }
 {
     match body(alloc, depth, bytes) {
         Ok((body, rest)) => Ok((body, rest)),

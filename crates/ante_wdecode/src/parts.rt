@@ -1,10 +1,10 @@
 ghost use Rattle.std.specs.Prelude.{◌≡◌};
-ghost use Rattle.ante_wdecode.specs.Rules.{Gives, among, exactly};
+ghost use Rattle.ante_wdecode.specs.Rules.{ReadsAs, among, exactly};
 ghost use Rattle.ante_wdecode.specs.Modules.{external_kinds, external_kind, import_desc, import, is_init, is_end, init_of, const_expr, global, export, element, segment};
 
 use crate::fault::{DecodeKind, Unread, ended, fault};
 use crate::items::{Item, number, read_vector, signed32, signed64, this_byte};
-use crate::opcodes::{Indexed, Lead, read_opcode};
+use crate::opcodes::{Indexed, Opcode, read_opcode};
 use crate::types::{ANY, raw_bytes, read_flag, read_kind, read_limits, read_name};
 use ante_pack::Bytes;
 use ante_wtree::{Element, Export, ExportKind, Import, ImportKind, Init, Segment};
@@ -23,7 +23,7 @@ fn external_kind_of(byte: u8) -> Option<ExportKind>
 }
 
 fn read_external_kind(bytes: &[u8]) -> Result<(ExportKind, &[u8]), Unread>
-    ensures { Gives (λ x. (x.0, x.1.now)) result (external_kind.read bytes.now) }
+    ensures { ReadsAs (λ x. (x.0, x.1.now)) result (external_kind.read bytes.now) }
 {
     let Some((first, rest)) = bytes.split_first() else {
         return Err(ended(bytes));
@@ -35,7 +35,7 @@ fn read_external_kind(bytes: &[u8]) -> Result<(ExportKind, &[u8]), Unread>
 }
 
 fn read_import_desc(kind: ExportKind, bytes: &[u8]) -> Result<(ImportKind, &[u8]), Unread>
-    ensures { Gives (λ x. (x.0, x.1.now)) result ((import_desc kind).read bytes.now) }
+    ensures { ReadsAs (λ x. (x.0, x.1.now)) result ((import_desc kind).read bytes.now) }
 {
     match kind {
         ExportKind::Function => {
@@ -71,39 +71,39 @@ impl Item for Import {
     }
 }
 
-fn begins_init(lead: Lead) -> bool
-    ensures { result ≡ is_init lead }
+fn begins_init(opcode: Opcode) -> bool
+    ensures { result ≡ is_init opcode }
 {
-    match lead {
-        Lead::I32Const => true,
-        Lead::I64Const => true,
-        Lead::Indexed(Indexed::GlobalGet) => true,
+    match opcode {
+        Opcode::I32Const => true,
+        Opcode::I64Const => true,
+        Opcode::Indexed(Indexed::GlobalGet) => true,
         _ => false,
     }
 }
 
-fn ends_init(lead: Lead) -> bool
-    ensures { result ≡ is_end lead }
+fn ends_init(opcode: Opcode) -> bool
+    ensures { result ≡ is_end opcode }
 {
-    match lead {
-        Lead::End => true,
+    match opcode {
+        Opcode::End => true,
         _ => false,
     }
 }
 
-fn read_init_of(lead: Lead, bytes: &[u8]) -> Result<(Init, &[u8]), Unread>
-    ensures { Gives (λ x. (x.0, x.1.now)) result ((init_of lead).read bytes.now) }
+fn read_init_of(opcode: Opcode, bytes: &[u8]) -> Result<(Init, &[u8]), Unread>
+    ensures { ReadsAs (λ x. (x.0, x.1.now)) result ((init_of opcode).read bytes.now) }
 {
-    match lead {
-        Lead::I32Const => {
+    match opcode {
+        Opcode::I32Const => {
             let (n, rest) = signed32(bytes)?;
             Ok((Init::Const32(n), rest))
         }
-        Lead::I64Const => {
+        Opcode::I64Const => {
             let (n, rest) = signed64(bytes)?;
             Ok((Init::Const64(n), rest))
         }
-        Lead::Indexed(Indexed::GlobalGet) => {
+        Opcode::Indexed(Indexed::GlobalGet) => {
             let (n, rest) = number(bytes)?;
             Ok((Init::GlobalGet(n), rest))
         }
@@ -112,13 +112,13 @@ fn read_init_of(lead: Lead, bytes: &[u8]) -> Result<(Init, &[u8]), Unread>
 }
 
 fn read_init(bytes: &[u8]) -> Result<(Init, &[u8]), Unread>
-    ensures { Gives (λ x. (x.0, x.1.now)) result (const_expr.read bytes.now) }
+    ensures { ReadsAs (λ x. (x.0, x.1.now)) result (const_expr.read bytes.now) }
 {
-    let (lead, rest) = read_opcode(bytes)?;
-    if !begins_init(lead) {
+    let (opcode, rest) = read_opcode(bytes)?;
+    if !begins_init(opcode) {
         return Err(fault(bytes, DecodeKind::Form));
     }
-    let (init, rest) = read_init_of(lead, rest)?;
+    let (init, rest) = read_init_of(opcode, rest)?;
     let (end, after) = read_opcode(rest)?;
     if !ends_init(end) {
         return Err(fault(rest, DecodeKind::Form));
@@ -157,7 +157,7 @@ impl Item for Export {
 
 /// This number, in any spelling.
 pub fn exact_number(wanted: usize, bytes: &[u8]) -> Result<(u32, &[u8]), Unread>
-    ensures { Gives (λ x. (x.0, x.1.now)) result ((exactly wanted).read bytes.now) }
+    ensures { ReadsAs (λ x. (x.0, x.1.now)) result ((exactly wanted).read bytes.now) }
 {
     let (n, rest) = number(bytes)?;
     if n as usize != wanted {

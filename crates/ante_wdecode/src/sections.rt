@@ -1,7 +1,9 @@
 ghost use Rattle.std.specs.Prelude.{◌≡◌, ◌-◌, Some, map};
+ghost use Rattle.ante_wtree.specs.Limits.{most_functions};
 ghost use Rattle.ante_wtree.specs.Trees.{tree_of, body_of};
-ghost use Rattle.ante_wdecode.specs.Rules.{Gives, among, one_of, filling, misfit_of};
-ghost use Rattle.ante_wdecode.specs.Sections.{section_of, is_function, imported, custom, bodies, contents, number_of, section_ids, no_section, section_id, follows, last_after, section, bare, with_section};
+ghost use Rattle.ante_wdecode.specs.Rules.{ReadsAs, among, one_of, filling, misfit_of};
+ghost use Rattle.ante_wdecode.specs.Sections.{section_of, is_function, imported, custom, bodies, contents, section, bare, with_section};
+ghost use Rattle.ante_wdecode.specs.Sections.{number_of, section_ids, no_section, section_id, follows, last_after};
 
 use crate::code::read_codes;
 use crate::fault::{DecodeKind, Unread, ended, fault, misfit, moved};
@@ -9,18 +11,12 @@ use crate::items::{number, read_vector};
 use crate::parts::exact_number;
 use crate::types::{name_bytes, read_sized_vector};
 use ante_pack::Seq;
+use ante_wtree::limits::{
+    MOST_DATA_SEGMENTS, MOST_ELEMENT_SEGMENTS, MOST_EXPORTS, MOST_FUNCTIONS, MOST_GLOBALS,
+    MOST_IMPORTS, MOST_TYPES,
+};
 use ante_wtree::{Code, Element, Export, FuncType, Import, ImportKind, Limits, Module, Segment};
 use std::alloc::Global;
-
-const MOST_TYPES: u32 = 1024;
-
-const MOST_FUNCTIONS: u32 = 8192;
-
-const MOST_GLOBALS: u32 = 1024;
-
-const MOST_EXPORTS: u32 = 8192;
-
-const MOST_SEGMENTS: u32 = 1024;
 
 /// The sections, in the order of their numbers (section 5.5.2).
 #[derive(Clone, Copy)]
@@ -115,7 +111,7 @@ pub fn last_number(last: u8, id: SectionId) -> u8
 }
 
 fn one_section_id(bytes: &[u8]) -> Result<(SectionId, &[u8]), Unread>
-    ensures { Gives (λ x. (x.0, x.1.now)) result ((one_of no_section section_ids).read bytes.now) }
+    ensures { ReadsAs (λ x. (x.0, x.1.now)) result ((one_of no_section section_ids).read bytes.now) }
 {
     let Some((first, rest)) = bytes.split_first() else {
         return Err(ended(bytes));
@@ -127,7 +123,7 @@ fn one_section_id(bytes: &[u8]) -> Result<(SectionId, &[u8]), Unread>
 }
 
 fn read_section_id(last: u8, bytes: &[u8]) -> Result<(SectionId, &[u8]), Unread>
-    ensures { Gives (λ x. (x.0, x.1.now)) result ((section_id last).read bytes.now) }
+    ensures { ReadsAs (λ x. (x.0, x.1.now)) result ((section_id last).read bytes.now) }
 {
     let (id, rest) = one_section_id(bytes)?;
     if !may_follow(last, id) {
@@ -154,11 +150,12 @@ fn imported_functions(imports: &[Import]) -> usize
     count
 }
 
-fn most_functions(imports: &[Import]) -> u32
-    ensures { result ≡ 8192 - imported imports.now }
+/// How many functions of its own a module may have beside the imported ones.
+fn functions_beside(imports: &[Import]) -> u32
+    ensures { result ≡ most_functions - imported imports.now }
 {
     let count = imported_functions(imports);
-    if count < 8192 {
+    if count < MOST_FUNCTIONS as usize {
         MOST_FUNCTIONS - count as u32
     } else {
         0
@@ -166,7 +163,7 @@ fn most_functions(imports: &[Import]) -> u32
 }
 
 fn read_custom(bytes: &[u8]) -> Result<(Contents, &[u8]), Unread>
-    ensures { Gives (λ x. (section_of x.0, x.1.now)) result (custom.read bytes.now) }
+    ensures { ReadsAs (λ x. (section_of x.0, x.1.now)) result (custom.read bytes.now) }
 {
     match name_bytes(bytes) {
         Ok(_) => Ok((Contents::Custom, &[])),
@@ -179,7 +176,7 @@ fn read_bodies<'a>(
     so_far: &Module,
     bytes: &'a [u8],
 ) -> Result<(Seq<Code>, &'a [u8]), Unread>
-    ensures { Gives (λ x. (map body_of x.0, x.1.now)) result ((bodies (tree_of so_far.now)).read bytes.now) }
+    ensures { ReadsAs (λ x. (map body_of x.0, x.1.now)) result ((bodies (tree_of so_far.now)).read bytes.now) }
 {
     let (_, rest) = exact_number(so_far.functions.len(), bytes)?;
     read_codes(
@@ -197,7 +194,7 @@ fn read_contents<'a>(
     id: SectionId,
     bytes: &'a [u8],
 ) -> Result<(Contents, &'a [u8]), Unread>
-    ensures { Gives (λ x. (section_of x.0, x.1.now)) result ((contents (tree_of so_far.now) id).read bytes.now) }
+    ensures { ReadsAs (λ x. (section_of x.0, x.1.now)) result ((contents (tree_of so_far.now) id).read bytes.now) }
 {
     match id {
         SectionId::Custom => read_custom(bytes),
@@ -206,11 +203,11 @@ fn read_contents<'a>(
             Ok((Contents::Types(types), rest))
         }
         SectionId::Imports => {
-            let (imports, rest) = read_vector(alloc, MOST_FUNCTIONS, bytes)?;
+            let (imports, rest) = read_vector(alloc, MOST_IMPORTS, bytes)?;
             Ok((Contents::Imports(imports), rest))
         }
         SectionId::Functions => {
-            let most = most_functions(so_far.imports.as_slice());
+            let most = functions_beside(so_far.imports.as_slice());
             let (functions, rest) = read_vector(alloc, most, bytes)?;
             Ok((Contents::Functions(functions), rest))
         }
@@ -235,7 +232,7 @@ fn read_contents<'a>(
             Ok((Contents::Start(start), rest))
         }
         SectionId::Elements => {
-            let (elements, rest) = read_vector(alloc, MOST_SEGMENTS, bytes)?;
+            let (elements, rest) = read_vector(alloc, MOST_ELEMENT_SEGMENTS, bytes)?;
             Ok((Contents::Elements(elements), rest))
         }
         SectionId::Codes => {
@@ -243,7 +240,7 @@ fn read_contents<'a>(
             Ok((Contents::Codes(codes), rest))
         }
         SectionId::Segments => {
-            let (segments, rest) = read_vector(alloc, MOST_SEGMENTS, bytes)?;
+            let (segments, rest) = read_vector(alloc, MOST_DATA_SEGMENTS, bytes)?;
             Ok((Contents::Segments(segments), rest))
         }
     }
@@ -257,7 +254,7 @@ fn fill_section<'a>(
     size: u32,
     bytes: &'a [u8],
 ) -> Result<(Contents, &'a [u8]), Unread>
-    ensures { Gives (λ x. (section_of x.0, x.1.now)) result ((filling (misfit_of (Some whole)) size (contents (tree_of so_far.now) id)).read bytes.now) }
+    ensures { ReadsAs (λ x. (section_of x.0, x.1.now)) result ((filling (misfit_of (Some whole)) size (contents (tree_of so_far.now) id)).read bytes.now) }
 {
     let size = size as usize;
     if bytes.len() < size {
@@ -282,7 +279,7 @@ pub fn read_section<'a>(
     so_far: &Module,
     bytes: &'a [u8],
 ) -> Result<(SectionId, Contents, &'a [u8]), Unread>
-    ensures { Gives (λ x. ((x.0, section_of x.1), x.2.now)) result ((section last (tree_of so_far.now)).read bytes.now) }
+    ensures { ReadsAs (λ x. ((x.0, section_of x.1), x.2.now)) result ((section last (tree_of so_far.now)).read bytes.now) }
 {
     let (id, rest) = read_section_id(last, bytes)?;
     let (size, rest) = number(rest)?;

@@ -1,19 +1,17 @@
 ghost use Rattle.std.specs.Prelude.{◌≡◌};
-ghost use Rattle.ante_wtree.specs.Expressions.{put, Plain};
-ghost use Rattle.ante_wdecode.specs.Rules.{Gives};
+ghost use Rattle.ante_wtree.specs.Expressions.{cons, Plain};
+ghost use Rattle.ante_wdecode.specs.Rules.{ReadsAs};
 ghost use Rattle.ante_wdecode.specs.Instructions.{indexed_of, memarg, completes};
 
 use crate::fault::{DecodeKind, Unread, fault};
 use crate::items::{number, read_vector, signed32, signed64, this_byte};
-use crate::opcodes::{Indexed, Lead};
+use crate::opcodes::{Indexed, Opcode};
+use ante_wtree::limits::MOST_BRANCH_TARGETS;
 use ante_wtree::{Instr, MemArg, PlainInstr};
 use std::alloc::Global;
 
-/// The most targets of a `br_table`.
-const MOST_TARGETS: u32 = 8192;
-
 fn read_memarg(bytes: &[u8]) -> Result<(MemArg, &[u8]), Unread>
-    ensures { Gives (λ x. (x.0, x.1.now)) result (memarg.read bytes.now) }
+    ensures { ReadsAs (λ x. (x.0, x.1.now)) result (memarg.read bytes.now) }
 {
     let (align, rest) = number(bytes)?;
     let (offset, rest) = number(rest)?;
@@ -21,7 +19,7 @@ fn read_memarg(bytes: &[u8]) -> Result<(MemArg, &[u8]), Unread>
 }
 
 fn indexed_instr(indexed: Indexed, n: u32) -> Instr
-    ensures { put result ≡ Plain (indexed_of indexed n) }
+    ensures { cons result ≡ Plain (indexed_of indexed n) }
 {
     match indexed {
         Indexed::LocalGet => Instr::LocalGet(n),
@@ -33,7 +31,7 @@ fn indexed_instr(indexed: Indexed, n: u32) -> Instr
 }
 
 fn plain_instr(plain: PlainInstr) -> Instr
-    ensures { put result ≡ Plain plain }
+    ensures { cons result ≡ Plain plain }
 {
     match plain {
         PlainInstr::Unreachable => Instr::Unreachable,
@@ -64,63 +62,63 @@ fn plain_instr(plain: PlainInstr) -> Instr
     }
 }
 
-pub fn rest_of(alloc: Global, lead: Lead, bytes: &[u8]) -> Result<(Instr, &[u8]), Unread>
-    ensures { Gives (λ x. (put x.0, x.1.now)) result ((completes lead).read bytes.now) }
+pub fn rest_of(alloc: Global, opcode: Opcode, bytes: &[u8]) -> Result<(Instr, &[u8]), Unread>
+    ensures { ReadsAs (λ x. (cons x.0, x.1.now)) result ((completes opcode).read bytes.now) }
 {
-    match lead {
-        Lead::Fixed(plain) => Ok((plain_instr(plain), bytes)),
-        Lead::Indexed(indexed) => {
+    match opcode {
+        Opcode::Fixed(plain) => Ok((plain_instr(plain), bytes)),
+        Opcode::Indexed(indexed) => {
             let (n, rest) = number(bytes)?;
             Ok((indexed_instr(indexed, n), rest))
         }
-        Lead::Load(kind) => {
+        Opcode::Load(kind) => {
             let (at, rest) = read_memarg(bytes)?;
             Ok((Instr::Load(kind, at), rest))
         }
-        Lead::Store(kind) => {
+        Opcode::Store(kind) => {
             let (at, rest) = read_memarg(bytes)?;
             Ok((Instr::Store(kind, at), rest))
         }
-        Lead::MemorySize => {
+        Opcode::MemorySize => {
             let rest = this_byte(0x00, bytes)?;
             Ok((Instr::MemorySize, rest))
         }
-        Lead::MemoryGrow => {
+        Opcode::MemoryGrow => {
             let rest = this_byte(0x00, bytes)?;
             Ok((Instr::MemoryGrow, rest))
         }
-        Lead::I32Const => {
+        Opcode::I32Const => {
             let (n, rest) = signed32(bytes)?;
             Ok((Instr::I32Const(n), rest))
         }
-        Lead::I64Const => {
+        Opcode::I64Const => {
             let (n, rest) = signed64(bytes)?;
             Ok((Instr::I64Const(n), rest))
         }
-        Lead::Br => {
+        Opcode::Br => {
             let (label, rest) = number(bytes)?;
             Ok((Instr::Br(label), rest))
         }
-        Lead::BrIf => {
+        Opcode::BrIf => {
             let (label, rest) = number(bytes)?;
             Ok((Instr::BrIf(label), rest))
         }
-        Lead::BrTable => {
-            let (labels, rest) = read_vector(alloc, MOST_TARGETS, bytes)?;
+        Opcode::BrTable => {
+            let (labels, rest) = read_vector(alloc, MOST_BRANCH_TARGETS, bytes)?;
             let (label, rest) = number(rest)?;
             Ok((Instr::BrTable(labels, label), rest))
         }
-        Lead::Return => Ok((Instr::Return, bytes)),
-        Lead::Call => {
+        Opcode::Return => Ok((Instr::Return, bytes)),
+        Opcode::Call => {
             let (function, rest) = number(bytes)?;
             Ok((Instr::Call(function), rest))
         }
-        Lead::CallIndirect => {
+        Opcode::CallIndirect => {
             let (kind, rest) = number(bytes)?;
             let rest = this_byte(0x00, rest)?;
             Ok((Instr::CallIndirect(kind), rest))
         }
-        Lead::Block | Lead::Loop | Lead::If | Lead::Else | Lead::End => {
+        Opcode::Block | Opcode::Loop | Opcode::If | Opcode::Else | Opcode::End => {
             Err(fault(bytes, DecodeKind::Form))
         }
     }

@@ -1,6 +1,6 @@
 ghost use Rattle.std.specs.Prelude.{◌≡◌, List, ℕ, Bool};
 ghost use Rattle.std.specs.Str.{is_utf8};
-ghost use Rattle.ante_wdecode.specs.Rules.{Gives, among, raw, items};
+ghost use Rattle.ante_wdecode.specs.Rules.{ReadsAs, among, raw, items};
 ghost use Rattle.ante_wdecode.specs.Opcodes.{value_types, value_type};
 ghost use Rattle.ante_wdecode.specs.Instructions.{vector};
 ghost use Rattle.ante_wdecode.specs.Modules.{any, name, func_type, flags, flag, limits_of, limits, sized_type};
@@ -9,18 +9,15 @@ use crate::fault::{DecodeKind, Unread, ended, fault};
 use crate::items::{Item, limited_number, number, read_vector, this_byte};
 use crate::opcodes::not_a_kind;
 use ante_pack::{Bytes, Seq};
+use ante_wtree::limits::{MOST_PARAMS, MOST_TABLE_ELEMENTS};
 use ante_wtree::{FuncType, Limits, ValueKind};
 use std::alloc::Global;
 
 /// As many as a u32 can say.
 pub const ANY: u32 = 0xFFFF_FFFF;
 
-const MOST_PARAMS: u32 = 4096;
-
-const MOST_ELEMENTS: u32 = 8192;
-
 pub fn raw_bytes(count: u32, bytes: &[u8]) -> Result<(&[u8], &[u8]), Unread>
-    ensures { Gives (λ x. (x.0.now, x.1.now)) result ((raw count).read bytes.now) }
+    ensures { ReadsAs (λ x. (x.0.now, x.1.now)) result ((raw count).read bytes.now) }
 {
     let count = count as usize;
     if bytes.len() < count {
@@ -39,7 +36,7 @@ fn is_text(bytes: &[u8]) -> bool
 }
 
 pub fn name_bytes(bytes: &[u8]) -> Result<(&[u8], &[u8]), Unread>
-    ensures { Gives (λ x. (x.0.now, x.1.now)) result (name.read bytes.now) }
+    ensures { ReadsAs (λ x. (x.0.now, x.1.now)) result (name.read bytes.now) }
 {
     let (length, rest) = number(bytes)?;
     let (text, after) = raw_bytes(length, rest)?;
@@ -51,7 +48,7 @@ pub fn name_bytes(bytes: &[u8]) -> Result<(&[u8], &[u8]), Unread>
 }
 
 pub fn read_name(alloc: Global, bytes: &[u8]) -> Result<(Bytes, &[u8]), Unread>
-    ensures { Gives (λ x. (x.0, x.1.now)) result (name.read bytes.now) }
+    ensures { ReadsAs (λ x. (x.0, x.1.now)) result (name.read bytes.now) }
 {
     let (text, rest) = name_bytes(bytes)?;
     let text = Bytes::from_slice(alloc, text)?;
@@ -69,7 +66,7 @@ fn value_kind_of(byte: u8) -> Option<ValueKind>
 }
 
 pub fn read_kind(bytes: &[u8]) -> Result<(ValueKind, &[u8]), Unread>
-    ensures { Gives (λ x. (x.0, x.1.now)) result (value_type.read bytes.now) }
+    ensures { ReadsAs (λ x. (x.0, x.1.now)) result (value_type.read bytes.now) }
 {
     let Some((first, rest)) = bytes.split_first() else {
         return Err(ended(bytes));
@@ -110,7 +107,7 @@ fn flag_of(byte: u8) -> Option<bool>
 }
 
 pub fn read_flag(bytes: &[u8]) -> Result<(bool, &[u8]), Unread>
-    ensures { Gives (λ x. (x.0, x.1.now)) result (flag.read bytes.now) }
+    ensures { ReadsAs (λ x. (x.0, x.1.now)) result (flag.read bytes.now) }
 {
     let Some((first, rest)) = bytes.split_first() else {
         return Err(ended(bytes));
@@ -122,7 +119,7 @@ pub fn read_flag(bytes: &[u8]) -> Result<(bool, &[u8]), Unread>
 }
 
 fn limits_with(most: u32, has_most: bool, bytes: &[u8]) -> Result<(Limits, &[u8]), Unread>
-    ensures { Gives (λ x. (x.0, x.1.now)) result ((limits_of most has_most).read bytes.now) }
+    ensures { ReadsAs (λ x. (x.0, x.1.now)) result ((limits_of most has_most).read bytes.now) }
 {
     if has_most {
         let (least, rest) = limited_number(most, bytes)?;
@@ -141,7 +138,7 @@ fn limits_with(most: u32, has_most: bool, bytes: &[u8]) -> Result<(Limits, &[u8]
 
 /// Limits of which the first is at most so large.
 pub fn read_limits(most: u32, bytes: &[u8]) -> Result<(Limits, &[u8]), Unread>
-    ensures { Gives (λ x. (x.0, x.1.now)) result ((limits most).read bytes.now) }
+    ensures { ReadsAs (λ x. (x.0, x.1.now)) result ((limits most).read bytes.now) }
 {
     let (has_most, rest) = read_flag(bytes)?;
     limits_with(most, has_most, rest)
@@ -149,11 +146,11 @@ pub fn read_limits(most: u32, bytes: &[u8]) -> Result<(Limits, &[u8]), Unread>
 
 /// The type of a table of the module's own, or of a memory.
 fn read_sized(of_table: bool, bytes: &[u8]) -> Result<(Limits, &[u8]), Unread>
-    ensures { Gives (λ x. (x.0, x.1.now)) result ((sized_type of_table).read bytes.now) }
+    ensures { ReadsAs (λ x. (x.0, x.1.now)) result ((sized_type of_table).read bytes.now) }
 {
     if of_table {
         let rest = this_byte(0x70, bytes)?;
-        return read_limits(MOST_ELEMENTS, rest);
+        return read_limits(MOST_TABLE_ELEMENTS, rest);
     }
     read_limits(ANY, bytes)
 }
@@ -164,7 +161,7 @@ fn sized_items(
     count: u32,
     bytes: &[u8],
 ) -> Result<(Seq<Limits>, &[u8]), Unread>
-    ensures { Gives (λ x. (x.0, x.1.now)) result ((items count (sized_type of_table)).read bytes.now) }
+    ensures { ReadsAs (λ x. (x.0, x.1.now)) result ((items count (sized_type of_table)).read bytes.now) }
 {
     let mut items = Seq::new(alloc);
     let mut rest = bytes;
@@ -182,7 +179,7 @@ pub fn read_sized_vector(
     of_table: bool,
     bytes: &[u8],
 ) -> Result<(Seq<Limits>, &[u8]), Unread>
-    ensures { Gives (λ x. (x.0, x.1.now)) result ((vector any (sized_type of_table)).read bytes.now) }
+    ensures { ReadsAs (λ x. (x.0, x.1.now)) result ((vector any (sized_type of_table)).read bytes.now) }
 {
     let (count, rest) = limited_number(ANY, bytes)?;
     sized_items(alloc, of_table, count, rest)

@@ -1,6 +1,6 @@
 ghost use Rattle.std.specs.Prelude.{◌≡◌, length, IfOk, IfErr};
 ghost use Rattle.ante_wtree.specs.Trees.{Tree, tree_of};
-ghost use Rattle.ante_wdecode.specs.Rules.{Gives};
+ghost use Rattle.ante_wdecode.specs.Rules.{ReadsAs};
 ghost use Rattle.ante_wdecode.specs.Sections.{Encodes, bare};
 ghost use Rattle.ante_wdecode.specs.Decoding.{header_at, sections_at, parts_at, paired, cut_short, module_at, Is, Blames, IsFirst};
 
@@ -8,12 +8,11 @@ use crate::fault::{DecodeError, DecodeKind, Unread, fault};
 use crate::sections::{add_section, bare_module, last_number, read_section};
 use crate::types::raw_bytes;
 use ante_wtree::Module;
+use ante_wtree::limits::MOST_MODULE_BYTES;
 use std::alloc::Global;
 
-const MOST_BYTES: usize = 1_048_576;
-
 fn header<'a>(text: &[u8], bytes: &'a [u8]) -> Result<&'a [u8], Unread>
-    ensures { Gives (λ x. x.now) result (header_at text.now bytes.now) }
+    ensures { ReadsAs (λ x. x.now) result (header_at text.now bytes.now) }
 {
     let (front, rest) = raw_bytes(4, bytes)?;
     if front == text {
@@ -24,7 +23,7 @@ fn header<'a>(text: &[u8], bytes: &'a [u8]) -> Result<&'a [u8], Unread>
 }
 
 fn read_sections(alloc: Global, bytes: &[u8]) -> Result<Module, Unread>
-    ensures { Gives tree_of result (sections_at (length bytes.now) 0 bare bytes.now) }
+    ensures { ReadsAs tree_of result (sections_at (length bytes.now) 0 bare bytes.now) }
 {
     let mut module = bare_module(alloc);
     let mut last = 0;
@@ -39,7 +38,7 @@ fn read_sections(alloc: Global, bytes: &[u8]) -> Result<Module, Unread>
 }
 
 fn read_parts(alloc: Global, code: &[u8]) -> Result<Module, Unread>
-    ensures { Gives tree_of result (parts_at code.now) }
+    ensures { ReadsAs tree_of result (parts_at code.now) }
 {
     let rest = header(b"\x00asm", code)?;
     let rest = header(b"\x01\x00\x00\x00", rest)?;
@@ -47,7 +46,7 @@ fn read_parts(alloc: Global, code: &[u8]) -> Result<Module, Unread>
 }
 
 fn check_bodies(whole: Module) -> Result<Module, Unread>
-    ensures { Gives tree_of result (paired (tree_of whole)) }
+    ensures { ReadsAs tree_of result (paired (tree_of whole)) }
 {
     if whole.functions.len() == whole.codes.len() {
         return Ok(whole);
@@ -71,9 +70,9 @@ fn short_at_top(why: Unread) -> Unread
 }
 
 fn read_module(alloc: Global, code: &[u8]) -> Result<Module, Unread>
-    ensures { Gives tree_of result (module_at code.now) }
+    ensures { ReadsAs tree_of result (module_at code.now) }
 {
-    if MOST_BYTES < code.len() {
+    if MOST_MODULE_BYTES < code.len() {
         return Err(fault(code, DecodeKind::Limit));
     }
     match read_parts(alloc, code) {

@@ -5,6 +5,7 @@ use Rattle.std.proofs.lemmas.Option.{slice_get-map, slice_get-get_or, slice_get_
 use denote.Bor.{Bor}
 use Rattle.ante_wtree.specs.declared.instructions.ValueKind.{ValueKind}
 use Rattle.ante_wtree.specs.Intrinsics.{names, types, name_at, type_at}
+use Rattle.ante_wtree.proofs.SameKinds.{both}
 
 -- a row as the code has it
 abbrev Row : Type 0
@@ -37,10 +38,6 @@ equals_self (a ∷ more) = rw (eq-eqb a a refl) (equals_self more)
 or_right : (a : Bool) → (a || true) ≡ true
 or_right true = refl
 or_right false = refl
-
-both : (a b : Bool) → (a && b) ≡ true → (a ≡ true) × (b ≡ true)
-both true b h = (refl, h)
-both false b h = cc
 
 is_among : (ys : List (List ℕ)) (n : ℕ) (x : List ℕ) → slice_get ys n ≡ Some x → among ys x ≡ true
 is_among [] n x h = cc

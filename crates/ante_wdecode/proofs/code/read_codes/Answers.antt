@@ -10,5 +10,5 @@ loop-n-preserved c =
     let ns = c.args.functions.now in
     rw c.in_ok-push.ensures.ok (body_read c.args.types.now c.loop-n.codes (drop i ns) (drop (i + 1) ns) (get_or ns i 0) c.loop-n.rest.now c.in_ok-code.code c.in_ok-code.after.now _
     (drop_more ns i 0 c.loop-n-test.true)
-    (ap (λ m. (code m).read c.loop-n.rest.now) (sym c.most_locals-most.ensures) ∙ c.in_ok-code.ensures)
+    (ap (λ m. (code m).read c.loop-n.rest.now) (sym c.locals_of_type-most.ensures) ∙ c.in_ok-code.ensures)
     c.loop-n.invariant)

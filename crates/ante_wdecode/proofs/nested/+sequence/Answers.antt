@@ -1,9 +1,9 @@
 use Rattle.std.proofs.Common.{ℕ, ◌-◌, List, length, Ok, sym, ap, ◌∙◌, arith}
 use Rattle.std.proofs.lemmas.Result.{err_from_is_err_and}
-use Rattle.ante_wtree.specs.Expressions.{expression_of, put, If}
-use Rattle.ante_wdecode.specs.Integers.{◌>>=◌}
+use Rattle.ante_wtree.specs.Expressions.{expression_of, cons, If}
+use Rattle.ante_wdecode.specs.Leb128.{◌>>=◌}
 use Rattle.ante_wdecode.specs.Rules.{Read}
-use Rattle.ante_wdecode.specs.Reading.{Item, closed, body_at, block_of, block_at, if_at, deeper, one, item_at, item_of, inside, seq_at}
+use Rattle.ante_wdecode.specs.NestedInstructions.{Item, closed, body_at, block_of, block_at, if_at, deeper, one, item_at, item_of, inside, seq_at}
 use Rattle.ante_wdecode.proofs.Grammar.{kind_shorter, seq_shorter, item_shorter, opcode_shorter}
 use Rattle.ante_wdecode.proofs.Sequences.{none_yet, one_more, at_end, at_fault, item_is, item_fails, inside_is, deeper_is, block_fails, first_only, both_bodies, second_fails, along}
 use Rattle.ante_wdecode.proofs.nested.+sequence.Goals as goal
@@ -26,7 +26,7 @@ sequence-returns-in-Ends t c = λ n lt.
 pub choice-returns-then-not-by_else : goal.choice-returns-then-not-by_else
 choice-returns-then-not-by_else t c = λ n lt.
     deeper_is c.args.depth c.args.bytes.now (if_at (inside (seq_at n) c.args.depth) c.args.bytes.now) c.if-depth-eq0.false
-    ∙ first_only (inside (seq_at n) c.args.depth) c.args.bytes.now c.in_ok-kind.kind c.in_ok-kind.rest.now c.in_ok-one.rest.now (expression_of c.in_ok-one.one.items) c.in_ok-one.by_else (put c.if_instr.result)
+    ∙ first_only (inside (seq_at n) c.args.depth) c.args.bytes.now c.in_ok-kind.kind c.in_ok-kind.rest.now c.in_ok-one.rest.now (expression_of c.in_ok-one.one.items) c.in_ok-one.by_else (cons c.if_instr.result)
     c.in_ok-kind.ensures
     (inside_is (seq_at n) c.args.depth c.in_ok-kind.rest.now c.if-depth-eq0.false ∙ c.in_ok-one.ensures n (omega (arith, kind_shorter c.args.bytes.now c.in_ok-kind.kind c.in_ok-kind.rest.now c.in_ok-kind.ensures)))
     c.if-not-by_else.true
@@ -34,39 +34,39 @@ choice-returns-then-not-by_else t c = λ n lt.
 
 pub next_part-returns-in_ok-instr-in-Block : goal.next_part-returns-in_ok-instr-in-Block
 next_part-returns-in_ok-instr-in-Block t c = λ n le.
-    item_is c.args.depth (inside (seq_at n) c.args.depth) c.args.bytes.now c.in_ok-lead.rest.now c.in_ok-lead.lead _ c.in_ok-lead.ensures c.in-Block.is
-    ∙ ap (λ r. r >>= one) (c.in_ok-instr-in-Block.ensures n (omega (arith, opcode_shorter c.args.bytes.now c.in_ok-lead.lead c.in_ok-lead.rest.now c.in_ok-lead.ensures)))
+    item_is c.args.depth (inside (seq_at n) c.args.depth) c.args.bytes.now c.in_ok-opcode.rest.now c.in_ok-opcode.opcode _ c.in_ok-opcode.ensures c.in-Block.is
+    ∙ ap (λ r. r >>= one) (c.in_ok-instr-in-Block.ensures n (omega (arith, opcode_shorter c.args.bytes.now c.in_ok-opcode.opcode c.in_ok-opcode.rest.now c.in_ok-opcode.ensures)))
 
 pub next_part-returns-in_err-instr-in-Block : goal.next_part-returns-in_err-instr-in-Block
 next_part-returns-in_err-instr-in-Block t c = λ n le.
     let p = err_from_is_err_and c.from_residual-in_err-instr-in-Block.result c.from_residual-in_err-instr-in-Block.ensures.1 in
     rw (p.1, p.2) (item_fails c.in_err-instr-in-Block.field-0.0 (item_at c.args.depth (inside (seq_at n) c.args.depth) c.args.bytes.now) _
-    (item_is c.args.depth (inside (seq_at n) c.args.depth) c.args.bytes.now c.in_ok-lead.rest.now c.in_ok-lead.lead _ c.in_ok-lead.ensures c.in-Block.is)
-    (c.in_err-instr-in-Block.ensures n (omega (arith, opcode_shorter c.args.bytes.now c.in_ok-lead.lead c.in_ok-lead.rest.now c.in_ok-lead.ensures))))
+    (item_is c.args.depth (inside (seq_at n) c.args.depth) c.args.bytes.now c.in_ok-opcode.rest.now c.in_ok-opcode.opcode _ c.in_ok-opcode.ensures c.in-Block.is)
+    (c.in_err-instr-in-Block.ensures n (omega (arith, opcode_shorter c.args.bytes.now c.in_ok-opcode.opcode c.in_ok-opcode.rest.now c.in_ok-opcode.ensures))))
 
 pub next_part-returns-in_ok-instr-in-Loop : goal.next_part-returns-in_ok-instr-in-Loop
 next_part-returns-in_ok-instr-in-Loop t c = λ n le.
-    item_is c.args.depth (inside (seq_at n) c.args.depth) c.args.bytes.now c.in_ok-lead.rest.now c.in_ok-lead.lead _ c.in_ok-lead.ensures c.in-Loop.is
-    ∙ ap (λ r. r >>= one) (c.in_ok-instr-in-Loop.ensures n (omega (arith, opcode_shorter c.args.bytes.now c.in_ok-lead.lead c.in_ok-lead.rest.now c.in_ok-lead.ensures)))
+    item_is c.args.depth (inside (seq_at n) c.args.depth) c.args.bytes.now c.in_ok-opcode.rest.now c.in_ok-opcode.opcode _ c.in_ok-opcode.ensures c.in-Loop.is
+    ∙ ap (λ r. r >>= one) (c.in_ok-instr-in-Loop.ensures n (omega (arith, opcode_shorter c.args.bytes.now c.in_ok-opcode.opcode c.in_ok-opcode.rest.now c.in_ok-opcode.ensures)))
 
 pub next_part-returns-in_err-instr-in-Loop : goal.next_part-returns-in_err-instr-in-Loop
 next_part-returns-in_err-instr-in-Loop t c = λ n le.
     let p = err_from_is_err_and c.from_residual-in_err-instr-in-Loop.result c.from_residual-in_err-instr-in-Loop.ensures.1 in
     rw (p.1, p.2) (item_fails c.in_err-instr-in-Loop.field-0.0 (item_at c.args.depth (inside (seq_at n) c.args.depth) c.args.bytes.now) _
-    (item_is c.args.depth (inside (seq_at n) c.args.depth) c.args.bytes.now c.in_ok-lead.rest.now c.in_ok-lead.lead _ c.in_ok-lead.ensures c.in-Loop.is)
-    (c.in_err-instr-in-Loop.ensures n (omega (arith, opcode_shorter c.args.bytes.now c.in_ok-lead.lead c.in_ok-lead.rest.now c.in_ok-lead.ensures))))
+    (item_is c.args.depth (inside (seq_at n) c.args.depth) c.args.bytes.now c.in_ok-opcode.rest.now c.in_ok-opcode.opcode _ c.in_ok-opcode.ensures c.in-Loop.is)
+    (c.in_err-instr-in-Loop.ensures n (omega (arith, opcode_shorter c.args.bytes.now c.in_ok-opcode.opcode c.in_ok-opcode.rest.now c.in_ok-opcode.ensures))))
 
 pub next_part-returns-in_ok-instr-in-If : goal.next_part-returns-in_ok-instr-in-If
 next_part-returns-in_ok-instr-in-If t c = λ n le.
-    item_is c.args.depth (inside (seq_at n) c.args.depth) c.args.bytes.now c.in_ok-lead.rest.now c.in_ok-lead.lead _ c.in_ok-lead.ensures c.in-If.is
-    ∙ ap (λ r. r >>= one) (c.in_ok-instr-in-If.ensures n (omega (arith, opcode_shorter c.args.bytes.now c.in_ok-lead.lead c.in_ok-lead.rest.now c.in_ok-lead.ensures)))
+    item_is c.args.depth (inside (seq_at n) c.args.depth) c.args.bytes.now c.in_ok-opcode.rest.now c.in_ok-opcode.opcode _ c.in_ok-opcode.ensures c.in-If.is
+    ∙ ap (λ r. r >>= one) (c.in_ok-instr-in-If.ensures n (omega (arith, opcode_shorter c.args.bytes.now c.in_ok-opcode.opcode c.in_ok-opcode.rest.now c.in_ok-opcode.ensures)))
 
 pub next_part-returns-in_err-instr-in-If : goal.next_part-returns-in_err-instr-in-If
 next_part-returns-in_err-instr-in-If t c = λ n le.
     let p = err_from_is_err_and c.from_residual-in_err-instr-in-If.result c.from_residual-in_err-instr-in-If.ensures.1 in
     rw (p.1, p.2) (item_fails c.in_err-instr-in-If.field-0.0 (item_at c.args.depth (inside (seq_at n) c.args.depth) c.args.bytes.now) _
-    (item_is c.args.depth (inside (seq_at n) c.args.depth) c.args.bytes.now c.in_ok-lead.rest.now c.in_ok-lead.lead _ c.in_ok-lead.ensures c.in-If.is)
-    (c.in_err-instr-in-If.ensures n (omega (arith, opcode_shorter c.args.bytes.now c.in_ok-lead.lead c.in_ok-lead.rest.now c.in_ok-lead.ensures))))
+    (item_is c.args.depth (inside (seq_at n) c.args.depth) c.args.bytes.now c.in_ok-opcode.rest.now c.in_ok-opcode.opcode _ c.in_ok-opcode.ensures c.in-If.is)
+    (c.in_err-instr-in-If.ensures n (omega (arith, opcode_shorter c.args.bytes.now c.in_ok-opcode.opcode c.in_ok-opcode.rest.now c.in_ok-opcode.ensures))))
 
 pub sequence-items-smaller : goal.sequence-items-smaller
 sequence-items-smaller t c = item_shorter (length c.items.rest.now) c.args.depth c.items.rest.now (item_of c.in_ok-part.part) c.in_ok-part.after.now (c.in_ok-part.ensures (length c.items.rest.now) (omega arith))
@@ -84,7 +84,7 @@ choice-returns t c = λ n lt.
     let e = c.in_ok-one.ensures n (omega (arith, k)) in
     let s = seq_shorter n (c.args.depth - 1) c.in_ok-kind.rest.now (expression_of c.in_ok-one.one.items) c.in_ok-one.by_else c.in_ok-one.rest.now e in
     deeper_is c.args.depth c.args.bytes.now (if_at (inside (seq_at n) c.args.depth) c.args.bytes.now) c.if-depth-eq0.false
-    ∙ both_bodies (inside (seq_at n) c.args.depth) c.args.bytes.now c.in_ok-kind.kind c.in_ok-kind.rest.now c.in_ok-one.rest.now c.in_ok-two.rest.now (expression_of c.in_ok-one.one.items) (expression_of c.in_ok-two.two.items) c.in_ok-one.by_else (put c.if_instr-2.result)
+    ∙ both_bodies (inside (seq_at n) c.args.depth) c.args.bytes.now c.in_ok-kind.kind c.in_ok-kind.rest.now c.in_ok-one.rest.now c.in_ok-two.rest.now (expression_of c.in_ok-one.one.items) (expression_of c.in_ok-two.two.items) c.in_ok-one.by_else (cons c.if_instr-2.result)
     c.in_ok-kind.ensures
     (inside_is (seq_at n) c.args.depth c.in_ok-kind.rest.now c.if-depth-eq0.false ∙ e)
     c.if-not-by_else.false

@@ -1,6 +1,6 @@
 use Rattle.std.proofs.Common.{sym, ap, ◌∙◌}
 use Rattle.ante_wtree.specs.Expressions.{Block, Loop, body_is, expression_of}
-use Rattle.ante_wdecode.specs.Reading.{block_of}
+use Rattle.ante_wdecode.specs.NestedInstructions.{block_of}
 use Rattle.ante_wdecode.proofs.nested.block_instr.Goals as goal
 
 pub returns-then-looped : goal.returns-then-looped

@@ -1,15 +1,15 @@
 -- What is read of instructions with bodies, at the front of some bytes.
 use Rattle.std.specs.Prelude.{ℕ, zero, suc, ◌+◌, Bool, true, false, List, length, Option, Result, Ok, Err, if◌then◌else◌}
 use Rattle.ante_wtree.specs.declared.instructions.ValueKind.{ValueKind}
-use Rattle.ante_wtree.specs.Expressions.{Expression, put, Over, Block, Loop, If}
-use Rattle.ante_wdecode.specs.declared.opcodes.Lead.{Lead}
-use Rattle.ante_wdecode.specs.declared.opcodes.Lead.TheVariants as lead
+use Rattle.ante_wtree.specs.Expressions.{Expression, cons, Over, Block, Loop, If}
+use Rattle.ante_wdecode.specs.declared.opcodes.Opcode.{Opcode}
+use Rattle.ante_wdecode.specs.declared.opcodes.Opcode.TheVariants as opcode
 use Rattle.ante_wdecode.specs.declared.fault.DecodeKind.TheVariants as kind
 use Rattle.ante_wdecode.specs.declared.nested.Part.{Part}
 use Rattle.ante_wdecode.specs.declared.nested.Part.TheVariants as part
-use Rattle.ante_wdecode.specs.Integers.{◌>>=◌}
+use Rattle.ante_wdecode.specs.Leb128.{◌>>=◌}
 use Rattle.ante_wdecode.specs.Rules.{Fault, Ended, At, Read, Rule}
-use Rattle.ante_wdecode.specs.Opcodes.{opcode}
+use Rattle.ante_wdecode.specs.Opcodes.{an_opcode}
 use Rattle.ante_wdecode.specs.Instructions.{completes, block_type, IsExpression}
 
 -- a sequence, whether `else` ended it and not `end`, and the bytes after that
@@ -47,16 +47,16 @@ deeper (suc depth) bytes read = read
 abbrev pub one : (Expression → Expression) × List ℕ → Read Item
 one x = Ok (One x.0, x.1)
 
-abbrev pub led_at : (depth : ℕ) → (List ℕ → Result Sequence Fault) → Lead → List ℕ → Read Item
-led_at depth inner lead.Else bytes = Ok (Ends true, bytes)
-led_at depth inner lead.End bytes = Ok (Ends false, bytes)
-led_at depth inner lead.Block bytes = deeper depth bytes (block_at (block_of false) inner bytes) >>= one
-led_at depth inner lead.Loop bytes = deeper depth bytes (block_at (block_of true) inner bytes) >>= one
-led_at depth inner lead.If bytes = deeper depth bytes (if_at inner bytes) >>= one
+abbrev pub led_at : (depth : ℕ) → (List ℕ → Result Sequence Fault) → Opcode → List ℕ → Read Item
+led_at depth inner opcode.Else bytes = Ok (Ends true, bytes)
+led_at depth inner opcode.End bytes = Ok (Ends false, bytes)
+led_at depth inner opcode.Block bytes = deeper depth bytes (block_at (block_of false) inner bytes) >>= one
+led_at depth inner opcode.Loop bytes = deeper depth bytes (block_at (block_of true) inner bytes) >>= one
+led_at depth inner opcode.If bytes = deeper depth bytes (if_at inner bytes) >>= one
 led_at depth inner l bytes = (completes l).read bytes >>= one
 
 abbrev pub item_at : (depth : ℕ) → (List ℕ → Result Sequence Fault) → List ℕ → Read Item
-item_at depth inner bytes = opcode.read bytes >>= λ l. led_at depth inner l.0 l.1
+item_at depth inner bytes = an_opcode.read bytes >>= λ l. led_at depth inner l.0 l.1
 
 abbrev pub go_on : (List ℕ → Result Sequence Fault) → Item × List ℕ → Result Sequence Fault
 go_on more (Ends by_else, rest) = Ok (Over, by_else, rest)
@@ -71,6 +71,13 @@ abbrev pub seq_at : ℕ → (depth : ℕ) → List ℕ → Result Sequence Fault
 seq_at zero depth bytes = Err (Ended 0)
 seq_at (suc n) depth bytes = item_at depth (inside (seq_at n) depth) bytes >>= go_on (seq_at n depth)
 
+-- a block or a loop, and an if, whose bodies are one deeper
+abbrev pub block_within : (looped : Bool) → ℕ → (depth : ℕ) → List ℕ → Read (Expression → Expression)
+block_within looped n depth bytes = deeper depth bytes (block_at (block_of looped) (inside (seq_at n) depth) bytes)
+
+abbrev pub if_within : ℕ → (depth : ℕ) → List ℕ → Read (Expression → Expression)
+if_within n depth bytes = deeper depth bytes (if_at (inside (seq_at n) depth) bytes)
+
 -- an expression in which blocks are nested so deep at most
 abbrev pub expression : ℕ → Rule Expression
 expression depth = record {
@@ -80,4 +87,4 @@ expression depth = record {
 
 abbrev pub item_of : Part → Item
 item_of (part.Ends by_else) = Ends by_else
-item_of (part.One instr) = One (put instr)
+item_of (part.One instr) = One (cons instr)
