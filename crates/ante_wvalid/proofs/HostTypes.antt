@@ -5,15 +5,12 @@ use Rattle.ante_wtree.specs.declared.modules.FuncType.{FuncType}
 use Rattle.ante_wtree.specs.declared.modules.Import.{Import}
 use Rattle.ante_wtree.specs.declared.modules.ImportKind.TheVariants as import
 use Rattle.ante_wtree.specs.Intrinsics.{name_at, type_at}
-use Rattle.ante_wvalid.specs.Typing.{kinds_of}
+use Rattle.ante_wtree.specs.Types.{kinds_of}
 use Rattle.ante_wvalid.specs.Modules.{HostType, HasHostType}
+use Rattle.ante_wvalid.specs.OperandStacks.{Tells}
 
 abbrev Type' : Type 0
 Type' = List ValueKind × Option ValueKind
-
--- what a search for the type by the name has found
-abbrev pub Tells : List ℕ → Option Type' → Type 0
-Tells name found = (params : List ValueKind) (gives : Option ValueKind) → (found ≡ Some (params, gives)) ↔ HostType name params gives
 
 some_is : {A : Type 0} {x y : A} → Some x ≡ Some y → x ≡ y
 some_is h = cc

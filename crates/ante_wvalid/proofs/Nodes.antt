@@ -3,7 +3,7 @@ use Rattle.std.proofs.Common.{◌≡◌, ℕ, suc, ◌+◌, ap, ◌∙◌, arith
 use Rattle.ante_wtree.specs.declared.instructions.Instr.{Instr}
 use Rattle.ante_wtree.specs.declared.shape.Shape.{Shape}
 use Rattle.ante_wtree.specs.declared.shape.Shape.TheVariants as shape
-use Rattle.ante_wtree.specs.Expressions.{Expression, put, put_shape, Over, Plain, Block, Loop, If, Br, BrIf, BrTable, Return, Call, CallIndirect, MemoryGrow}
+use Rattle.ante_wtree.specs.Expressions.{Expression, cons, cons_shape, Over, Plain, Block, Loop, If, Br, BrIf, BrTable, Return, Call, CallIndirect, MemoryGrow}
 
 abbrev pub nodes : Expression → ℕ
 nodes Over = 0
@@ -20,9 +20,9 @@ nodes (CallIndirect n rest) = suc (nodes rest)
 nodes (MemoryGrow rest) = suc (nodes rest)
 
 abbrev pub size_of : Shape → ℕ
-size_of s = nodes (put_shape s Over)
+size_of s = nodes (cons_shape s Over)
 
-pub sum_of : (s : Shape) (rest : Expression) → nodes (put_shape s rest) ≡ size_of s + nodes rest
+pub sum_of : (s : Shape) (rest : Expression) → nodes (cons_shape s rest) ≡ size_of s + nodes rest
 sum_of (shape.Plain i) rest = omega arith
 sum_of (shape.Block kind body) rest = omega arith
 sum_of (shape.Loop kind body) rest = omega arith
@@ -36,5 +36,5 @@ sum_of (shape.CallIndirect n) rest = omega arith
 sum_of shape.MemoryGrow rest = omega arith
 
 -- an instruction and what follows it
-pub first_and_rest : (i : Instr) (s : Shape) (rest : Expression) → ((e : Expression) → put i e ≡ put_shape s e) → nodes (put i rest) ≡ size_of s + nodes rest
+pub first_and_rest : (i : Instr) (s : Shape) (rest : Expression) → ((e : Expression) → cons i e ≡ cons_shape s e) → nodes (cons i rest) ≡ size_of s + nodes rest
 first_and_rest i s rest h = ap nodes (h rest) ∙ sum_of s rest

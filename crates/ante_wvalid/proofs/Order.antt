@@ -9,8 +9,8 @@ use Rattle.ante_wvalid.specs.declared.kinds.InvalidKind.TheVariants as invalid
 use Rattle.ante_wvalid.specs.declared.imports.ImportRule.{ImportRule}
 use Rattle.ante_wvalid.specs.declared.imports.ImportRule.TheVariants as import_rule
 use Rattle.ante_wvalid.specs.Modules.{Applies, Breaks, IsUntyped, HasApply, IsFirstInvalid, IsValid, Precedes, place, index_of, rule_place, imported}
-use Rattle.ante_wvalid.specs.State.{IsRefused}
-use Rattle.ante_wvalid.specs.Answers.{Clear, HasOneFirst}
+use Rattle.ante_wvalid.specs.OperandStacks.{IsRefused}
+use Rattle.ante_wvalid.specs.Refusals.{Clear, HasOneFirst}
 
 pub clear_more : (m : Tree) (n : ℕ) → Clear m n → ((k : InvalidKind) → place k ≡ n → Applies m k → ⊥) → Clear m (suc n)
 clear_more m n h g k lt a = ⊎_elim (λ less. h k less a) (λ more. g k (omega arith) a) (cases_lt (place k) n)

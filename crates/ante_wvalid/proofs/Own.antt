@@ -8,8 +8,9 @@ use Rattle.ante_wtree.specs.declared.modules.FuncType.{FuncType}
 use Rattle.ante_wtree.specs.declared.modules.Global.{Global}
 use Rattle.ante_wtree.specs.declared.modules.Code.{Code}
 use Rattle.ante_wtree.specs.Trees.{Tree, Body, body_of}
-use Rattle.ante_wvalid.specs.Typing.{Context, Typed, kinds_of}
-use Rattle.ante_wvalid.specs.Modules.{IsFunctionTyped, context_of, function_types, is_there, first_of}
+use Rattle.ante_wtree.specs.Types.{kinds_of, result_of}
+use Rattle.ante_wvalid.specs.Typing.{Context, Typed}
+use Rattle.ante_wvalid.specs.Modules.{IsFunctionTyped, context_of, function_types, is_there}
 
 some_is : {A : Type 0} {x y : A} → Some x ≡ Some y → x ≡ y
 some_is h = cc
@@ -19,7 +20,7 @@ body_at codes at code e = slice_get-map body_of codes at ∙ ap (option_map body
 
 -- the body is typed in the function's context
 abbrev pub IsCodeTyped : Tree → FuncType → Body → Type 0
-IsCodeTyped m t b = Typed (context_of m t.params b.locals (first_of t.results)) b.body [] (kinds_of (first_of t.results))
+IsCodeTyped m t b = Typed (context_of m t.params b.locals (result_of t.results)) b.body [] (kinds_of (result_of t.results))
 
 pub function_is : (m : Tree) (at number : ℕ) (t : FuncType) (b : Body) → slice_get m.functions at ≡ Some number → slice_get m.types number ≡ Some t → slice_get m.codes at ≡ Some b →
     IsCodeTyped m t b ↔ IsFunctionTyped m at

@@ -1,6 +1,7 @@
 -- The rules for modules (Core 1.0, section 3.4, and those of this profile), and the first that a module breaks.
-use Rattle.std.specs.Prelude.{◌≡◌, ◌⊎◌, ℕ, ◌+◌, ◌<◌, ◌≤◌, Bool, true, false, List, [], ◌∷◌, ◌++◌, length, Option, None, Some, slice_get, codes}
+use Rattle.std.specs.Prelude.{◌≡◌, ◌⊎◌, ℕ, ◌+◌, ◌<◌, ◌≤◌, Bool, true, false, List, [], ◌∷◌, ◌++◌, length, Option, None, Some, MatchOption, slice_get, codes}
 use Rattle.std.specs.List.{Any}
+use Rattle.ante_wmem.specs.Limits.{most_memory_pages}
 use Rattle.ante_wtree.specs.declared.instructions.ValueKind.{ValueKind}
 use Rattle.ante_wtree.specs.declared.instructions.ValueKind.TheVariants.{I32, I64}
 use Rattle.ante_wtree.specs.declared.modules.FuncType.{FuncType}
@@ -13,13 +14,15 @@ use Rattle.ante_wtree.specs.declared.modules.Init.TheVariants as init
 use Rattle.ante_wtree.specs.declared.modules.ExportKind.{ExportKind}
 use Rattle.ante_wtree.specs.declared.modules.ExportKind.TheVariants as export
 use Rattle.ante_wtree.specs.declared.modules.Export.{Export}
+use Rattle.ante_wtree.specs.Limits.{most_table_elements}
+use Rattle.ante_wtree.specs.Types.{kinds_of, result_of}
 use Rattle.ante_wtree.specs.Intrinsics.{name_at, type_at}
 use Rattle.ante_wtree.specs.Trees.{Tree, Body}
 use Rattle.ante_wvalid.specs.declared.kinds.ModuleRule.{ModuleRule}
 use Rattle.ante_wvalid.specs.declared.kinds.ModuleRule.TheVariants as rule
 use Rattle.ante_wvalid.specs.declared.kinds.InvalidKind.{InvalidKind}
 use Rattle.ante_wvalid.specs.declared.kinds.InvalidKind.TheVariants as invalid
-use Rattle.ante_wvalid.specs.Typing.{Context, Typed, kinds_of, type_numbered}
+use Rattle.ante_wvalid.specs.Typing.{Context, Typed, type_numbered}
 
 -- ---- functions, the imported ones first
 
@@ -37,10 +40,6 @@ imported (i ∷ is) = function_of i.kind ++ imported is
 -- the number of each function's type
 abbrev pub function_types : Tree → List ℕ
 function_types m = imported m.imports ++ m.functions
-
-abbrev pub first_of : List ValueKind → Option ValueKind
-first_of [] = None
-first_of (k ∷ ks) = Some k
 
 -- Function f is there, and its type has these parameters and results.
 abbrev pub HasType : List FuncType → List ℕ → ℕ → (params results : List ValueKind) → Type 0
@@ -94,13 +93,12 @@ abbrev pub Twice : List Export → Type 0
 Twice [] = ⊥
 Twice (e ∷ es) = Any (λ d. d.name ≡ e.name) es ⊎ Twice es
 
--- A table has 8,192 elements at most, and a memory 528 pages.
 abbrev pub Breaks : Tree → ModuleRule → Type 0
 Breaks m rule.TypeIndex = Any (λ number. length m.types ≤ number) m.functions
 Breaks m rule.Results = Any (λ t. 1 < length t.results) m.types
 Breaks m rule.TwoTables = 1 < length m.table
 Breaks m rule.TwoMemories = 1 < length m.memory
-Breaks m rule.Bounds = Any (OutOfBounds 8192) m.table ⊎ Any (OutOfBounds 528) m.memory
+Breaks m rule.Bounds = Any (OutOfBounds most_table_elements) m.table ⊎ Any (OutOfBounds most_memory_pages) m.memory
 Breaks m rule.GlobalInit = Any (λ g. IsConstant g.kind g.init → ⊥) m.globals
     ⊎ (Any (λ e. IsConstant I32 e.offset → ⊥) m.elements ⊎ Any (λ s. IsConstant I32 s.offset → ⊥) m.segments)
 Breaks m rule.ExportIndex = Any (λ e. count m e.kind ≤ e.index) m.exports
@@ -132,7 +130,7 @@ context_of m params locals result = record {
 abbrev pub IsFunctionTyped : Tree → ℕ → Type 0
 IsFunctionTyped m at = (number : ℕ) × (t : FuncType) × (code : Body)
     × (slice_get m.functions at ≡ Some number) × (slice_get m.types number ≡ Some t) × (slice_get m.codes at ≡ Some code)
-    × Typed (context_of m t.params code.locals (first_of t.results)) code.body [] (kinds_of (first_of t.results))
+    × Typed (context_of m t.params code.locals (result_of t.results)) code.body [] (kinds_of (result_of t.results))
 
 -- The export is a function `apply` of three i64 and no result.
 abbrev pub IsApply : List FuncType → List ℕ → Export → Type 0
@@ -143,17 +141,21 @@ HasApply m = Any (IsApply m.types (function_types m)) m.exports
 
 -- ---- what is wrong with a module
 
-abbrev pub At : {A : Type 0} → (A → Type 0) → List A → ℕ → Type 0
-At {A} P xs at = (x : A) × (slice_get xs at ≡ Some x) × P x
+-- What is found is the first that this holds of, in the order of these numbers; nothing, where it holds of none.
+abbrev pub FindsFirst : {A : Type 0} → (order : A → ℕ) → (A → Type 0) → Option A → Type 0
+FindsFirst {A} order P found = MatchOption found ((x : A) → P x → ⊥) (λ x. P x × ((y : A) → order y < order x → P y → ⊥))
+
+abbrev pub HoldsAt : {A : Type 0} → (A → Type 0) → List A → ℕ → Type 0
+HoldsAt {A} P xs at = (x : A) × (slice_get xs at ≡ Some x) × P x
 
 -- There is an own function or a body at this place, and no typed function.
 abbrev pub IsUntyped : Tree → ℕ → Type 0
 IsUntyped m at = ((at < length m.functions) ⊎ (at < length m.codes)) × (IsFunctionTyped m at → ⊥)
 
 abbrev pub Applies : Tree → InvalidKind → Type 0
-Applies m (invalid.ImportKind index) = At (λ i. IsFunction i → ⊥) m.imports index
-Applies m (invalid.UnknownImport index) = At (λ i. IsKnown i → ⊥) m.imports index
-Applies m (invalid.ImportType index) = At (λ i. HasHostType m.types i → ⊥) m.imports index
+Applies m (invalid.ImportKind index) = HoldsAt (λ i. IsFunction i → ⊥) m.imports index
+Applies m (invalid.UnknownImport index) = HoldsAt (λ i. IsKnown i → ⊥) m.imports index
+Applies m (invalid.ImportType index) = HoldsAt (λ i. HasHostType m.types i → ⊥) m.imports index
 Applies m (invalid.Rule r) = Breaks m r
 Applies m (invalid.Body function) = (at : ℕ) × (function ≡ length (imported m.imports) + at) × IsUntyped m at
 Applies m invalid.NoApply = HasApply m → ⊥

@@ -3,14 +3,12 @@ use Rattle.std.specs.Prelude.{◌≡◌, ℕ, Bool, true, false, ◌&&◌, nat_l
 use Rattle.std.specs.List.{All}
 use Rattle.ante_wtree.specs.declared.instructions.ValueKind.{ValueKind}
 use Rattle.ante_wtree.specs.declared.instructions.ValueKind.TheVariants.{I32, I64}
-use Rattle.ante_wtree.specs.declared.instructions.LoadKind.{LoadKind}
-use Rattle.ante_wtree.specs.declared.instructions.LoadKind.TheVariants as load
-use Rattle.ante_wtree.specs.declared.instructions.StoreKind.{StoreKind}
-use Rattle.ante_wtree.specs.declared.instructions.StoreKind.TheVariants as store
 use Rattle.ante_wtree.specs.declared.instructions.PlainInstr.{PlainInstr}
 use Rattle.ante_wtree.specs.declared.instructions.PlainInstr.TheVariants as plain
 use Rattle.ante_wtree.specs.declared.modules.FuncType.{FuncType}
 use Rattle.ante_wtree.specs.declared.modules.Global.{Global}
+use Rattle.ante_wtree.specs.Types.{kinds_of}
+use Rattle.ante_wtree.specs.Accesses.{load_result, load_exponent, store_operand, store_exponent}
 use Rattle.ante_wtree.specs.Expressions.{Expression, Over, Plain, Block, Loop, If, Br, BrIf, BrTable, Return, Call, CallIndirect, MemoryGrow}
 
 -- What an instruction is typed in (section 3.1.1). The label of the innermost block comes first.
@@ -23,10 +21,6 @@ pub record Context : Type 0 where
   pub locals : List ValueKind
   pub labels : List (Option ValueKind)
   pub result : Option ValueKind
-
-abbrev pub kinds_of : Option ValueKind → List ValueKind
-kinds_of None = []
-kinds_of (Some kind) = kind ∷ []
 
 -- the context inside a block with this label
 abbrev pub inside : Option ValueKind → Context → Context
@@ -95,54 +89,6 @@ abbrev pub only_if : Bool → InstrType → InstrType
 only_if true t = t
 only_if false t = Untyped
 
--- what a load gives, and how many bytes it reads, as the exponent of a power of two
-abbrev pub load_result : LoadKind → ValueKind
-load_result load.I32 = I32
-load_result load.I64 = I64
-load_result load.I32S8 = I32
-load_result load.I32U8 = I32
-load_result load.I32S16 = I32
-load_result load.I32U16 = I32
-load_result load.I64S8 = I64
-load_result load.I64U8 = I64
-load_result load.I64S16 = I64
-load_result load.I64U16 = I64
-load_result load.I64S32 = I64
-load_result load.I64U32 = I64
-
-abbrev pub load_exponent : LoadKind → ℕ
-load_exponent load.I32 = 2
-load_exponent load.I64 = 3
-load_exponent load.I32S8 = 0
-load_exponent load.I32U8 = 0
-load_exponent load.I32S16 = 1
-load_exponent load.I32U16 = 1
-load_exponent load.I64S8 = 0
-load_exponent load.I64U8 = 0
-load_exponent load.I64S16 = 1
-load_exponent load.I64U16 = 1
-load_exponent load.I64S32 = 2
-load_exponent load.I64U32 = 2
-
--- what a store takes, and how many bytes it writes, as the exponent of a power of two
-abbrev pub store_operand : StoreKind → ValueKind
-store_operand store.I32 = I32
-store_operand store.I64 = I64
-store_operand store.I32As8 = I32
-store_operand store.I32As16 = I32
-store_operand store.I64As8 = I64
-store_operand store.I64As16 = I64
-store_operand store.I64As32 = I64
-
-abbrev pub store_exponent : StoreKind → ℕ
-store_exponent store.I32 = 2
-store_exponent store.I64 = 3
-store_exponent store.I32As8 = 0
-store_exponent store.I32As16 = 1
-store_exponent store.I64As8 = 0
-store_exponent store.I64As16 = 1
-store_exponent store.I64As32 = 2
-
 -- Sections 3.3.1 to 3.3.4. An access to the memory is aligned to no more bytes than it moves.
 abbrev pub type_of : Context → PlainInstr → InstrType
 type_of c plain.Unreachable = Unbounded
@@ -194,12 +140,19 @@ Leaves label = Then (Pops (kinds_of label)) Anything
 abbrev pub Jumps : Context → ℕ → Operands → Operands → Type 0
 Jumps c n = With (slice_get c.labels n) Leaves
 
-abbrev pub JumpsIf : Context → ℕ → Operands → Operands → Type 0
-JumpsIf c n = With (slice_get c.labels n) (λ label. Then (Pops (I32 ∷ [])) (Turns (kinds_of label) (kinds_of label)))
+-- takes a test and what the label wants, and leaves this where it goes on
+abbrev pub LeavesIf : Option ValueKind → Operands → Operands → Type 0
+LeavesIf label = Then (Pops (I32 ∷ [])) (Turns (kinds_of label) (kinds_of label))
 
--- the labels of all targets want the same
+abbrev pub JumpsIf : Context → ℕ → Operands → Operands → Type 0
+JumpsIf c n = With (slice_get c.labels n) LeavesIf
+
+-- takes a number, and leaves for one of the targets, whose labels all want the same
+abbrev pub LeavesAmong : (labels : List (Option ValueKind)) → List ℕ → Option ValueKind → Operands → Operands → Type 0
+LeavesAmong labels targets label = Where (All (λ k. slice_get labels k ≡ Some label) targets) (Then (Pops (I32 ∷ [])) (Leaves label))
+
 abbrev pub JumpsAmong : Context → List ℕ → ℕ → Operands → Operands → Type 0
-JumpsAmong c targets n = With (slice_get c.labels n) (λ label. Where (All (λ k. slice_get c.labels k ≡ Some label) targets) (Then (Pops (I32 ∷ [])) (Leaves label)))
+JumpsAmong c targets n = With (slice_get c.labels n) (LeavesAmong c.labels targets)
 
 -- the type of this number
 abbrev pub type_numbered : List FuncType → Option ℕ → Option FuncType
@@ -215,8 +168,12 @@ Calls t = Turns t.params t.results
 abbrev pub CallsNamed : Context → ℕ → Operands → Operands → Type 0
 CallsNamed c f = With (function_type c f) Calls
 
+-- takes the place in the table, and calls what is there
+abbrev pub CallsAt : FuncType → Operands → Operands → Type 0
+CallsAt t = Then (Pops (I32 ∷ [])) (Calls t)
+
 abbrev pub CallsByTable : Context → ℕ → Operands → Operands → Type 0
-CallsByTable c number = Where (c.table ≡ true) (With (slice_get c.types number) (λ t. Then (Pops (I32 ∷ [])) (Calls t)))
+CallsByTable c number = Where (c.table ≡ true) (With (slice_get c.types number) CallsAt)
 
 abbrev pub Grows : Context → Operands → Operands → Type 0
 Grows c = Where (c.memory ≡ true) (Turns (I32 ∷ []) (I32 ∷ []))

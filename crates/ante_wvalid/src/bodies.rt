@@ -1,11 +1,11 @@
 ghost use Rattle.std.specs.Prelude.{◌≡◌, ◌↔◌, ◌∷◌, [], Some, IsTrue, IfOk, None};
-ghost use Rattle.ante_wtree.specs.declared.instructions.ValueKind.TheVariants.{I32};
 ghost use Rattle.ante_wtree.specs.Expressions.{expression_of};
-ghost use Rattle.ante_wvalid.specs.Typing.{Typed, Where, Pushes, Turns, inside, kinds_of};
-ghost use Rattle.ante_wvalid.specs.State.{Carries, context_in, step_of};
+ghost use Rattle.ante_wtree.specs.Types.{kinds_of};
+ghost use Rattle.ante_wvalid.specs.Typing.{Typed, inside};
+ghost use Rattle.ante_wvalid.specs.OperandStacks.{Carries, BlockTurns, IfTurns, context_in, step_of};
 
 use crate::jumps::{call, call_by_table, grow, jump, jump_among, jump_if, leave, plain};
-use crate::known::Known;
+use crate::operand_types::OperandTypes;
 use crate::scope::{Scope, kinds};
 use ante_stack::Stack;
 use ante_wtree::{Instr, Shape, ValueKind, shape_of};
@@ -23,7 +23,7 @@ pub fn sequence(
     ensures typed { IfOk result (λ yes. IsTrue yes ↔ Typed (context_in scope.now labels.old) (expression_of body.now) [] (kinds_of wanted)) }
     ensures labels { IfOk result (λ _. labels.new ≡ labels.old) }
 {
-    let mut operands = Known::new(alloc);
+    let mut operands = OperandTypes::new(alloc);
     let mut rest = body;
     'instrs: while let Some((instr, tail)) = rest.split_first() {
         if !step(scope, labels, alloc, shape_of(instr), &mut operands)? {
@@ -61,9 +61,9 @@ fn block(
     label: Option<ValueKind>,
     body: &[Instr],
     kind: Option<ValueKind>,
-    operands: &mut Known,
+    operands: &mut OperandTypes,
 ) -> Result<bool, AllocError>
-    ensures carries { IfOk result (λ yes. Carries (Where (Typed (inside label (context_in scope.now labels.old)) (expression_of body.now) [] (kinds_of kind)) (Pushes (kinds_of kind))) yes operands.old operands.new) }
+    ensures carries { IfOk result (λ yes. Carries (BlockTurns (context_in scope.now labels.old) label (expression_of body.now) kind) yes operands.old operands.new) }
     ensures labels { IfOk result (λ _. labels.new ≡ labels.old) }
 {
     if !inner(scope, labels, alloc, label, body, kind)? {
@@ -81,9 +81,9 @@ fn choice(
     one: &[Instr],
     two: &[Instr],
     kind: Option<ValueKind>,
-    operands: &mut Known,
+    operands: &mut OperandTypes,
 ) -> Result<bool, AllocError>
-    ensures carries { IfOk result (λ yes. Carries (Where (Typed (inside kind (context_in scope.now labels.old)) (expression_of one.now) [] (kinds_of kind) × Typed (inside kind (context_in scope.now labels.old)) (expression_of two.now) [] (kinds_of kind)) (Turns (I32 ∷ []) (kinds_of kind))) yes operands.old operands.new) }
+    ensures carries { IfOk result (λ yes. Carries (IfTurns (context_in scope.now labels.old) (expression_of one.now) (expression_of two.now) kind) yes operands.old operands.new) }
     ensures labels { IfOk result (λ _. labels.new ≡ labels.old) }
 {
     if !inner(scope, labels, alloc, kind, one, kind)? {
@@ -102,7 +102,7 @@ fn step(
     labels: &mut Stack<Option<ValueKind>>,
     alloc: Global,
     shape: Shape<'_>,
-    operands: &mut Known,
+    operands: &mut OperandTypes,
 ) -> Result<bool, AllocError>
     ensures carries { IfOk result (λ yes. Carries (step_of (context_in scope.now labels.old) shape.entry) yes operands.old operands.new) }
     ensures labels { IfOk result (λ _. labels.new ≡ labels.old) }

@@ -2,26 +2,21 @@ ghost use Rattle.std.specs.Prelude.{◌≡◌, ◌↔◌, ◌⊎◌, ℕ, ◌+�
 ghost use Rattle.std.specs.Option.{option_copied};
 ghost use Rattle.ante_wtree.specs.Expressions.{expression_of};
 ghost use Rattle.ante_wtree.specs.Trees.{tree_of};
-ghost use Rattle.ante_wvalid.specs.Typing.{Typed, kinds_of};
-ghost use Rattle.ante_wvalid.specs.State.{context_in};
-ghost use Rattle.ante_wvalid.specs.Modules.{IsFunctionTyped, IsUntyped, first_of, is_there, function_types};
+ghost use Rattle.ante_wtree.specs.Types.{kinds_of, result_of};
+ghost use Rattle.ante_wvalid.specs.Typing.{Typed};
+ghost use Rattle.ante_wvalid.specs.OperandStacks.{context_in};
+ghost use Rattle.ante_wvalid.specs.Modules.{IsFunctionTyped, IsUntyped, FindsFirst, is_there, function_types};
 
 use crate::bodies::sequence;
 use crate::scope::{Scope, numbered};
 use ante_stack::Stack;
-use ante_wtree::{Code, Instr, Module, ValueKind};
+use ante_wtree::{Code, Instr, Module, result_of};
 use std::alloc::{AllocError, Global};
 
 fn is_there<T>(items: &[T]) -> bool
     ensures { result ≡ is_there items.now }
 {
     !items.is_empty()
-}
-
-fn first_of(kinds: &[ValueKind]) -> Option<ValueKind>
-    ensures { result ≡ first_of kinds.now }
-{
-    kinds.first().copied()
 }
 
 /// Whether a function's body leaves its result; its one label is the result's.
@@ -74,7 +69,7 @@ fn is_typed(
         globals: module.globals.as_slice(),
         params: found.params.as_slice(),
         locals: code.locals.as_slice(),
-        result: first_of(found.results.as_slice()),
+        result: result_of(found.results.as_slice()),
     };
     let typed = is_body_typed(alloc, &scope, code.body.as_slice())?;
     Ok(typed)
@@ -96,7 +91,7 @@ pub fn first_untyped(
     functions: &[u32],
 ) -> Result<Option<usize>, AllocError>
     requires { functions.now ≡ function_types (tree_of module.now) }
-    ensures { IfOk result (λ found. MatchOption found ((k : ℕ) → IsUntyped (tree_of module.now) k → ⊥) (λ at. IsUntyped (tree_of module.now) at × ((k : ℕ) → k < at → IsUntyped (tree_of module.now) k → ⊥))) }
+    ensures { IfOk result (FindsFirst (λ at. at) (IsUntyped (tree_of module.now))) }
 {
     let count = places(module);
     let mut at = 0;

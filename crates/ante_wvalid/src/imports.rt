@@ -1,12 +1,14 @@
 ghost use Rattle.std.specs.Prelude.{◌≡◌, ◌↔◌, ℕ, List, Option, Some, ◌++◌, ◌<◌, [], ◌∷◌, length, IsTrue, IfOk, MatchOption, slice_get, OnSome};
 ghost use Rattle.std.specs.Option.{option_copied, option_map};
 ghost use Rattle.ante_wtree.specs.Trees.{tree_of};
-ghost use Rattle.ante_wvalid.specs.Modules.{IsFunction, IsHostName, IsKnown, HostType, HasHostType, imported, function_of, function_types};
-ghost use Rattle.ante_wvalid.specs.State.{Meets, IsRefused};
+ghost use Rattle.ante_wvalid.specs.Modules.{IsFunction, IsHostName, IsKnown, HasHostType, FindsFirst, imported, function_of, function_types};
+ghost use Rattle.ante_wvalid.specs.OperandStacks.{Tells, Meets, IsRefused};
 
-use crate::rules::{same_bytes, same_type};
+use crate::rules::same_bytes;
 use crate::scope::{kinds, numbered};
-use ante_wtree::{FuncType, Import, ImportKind, Module, ValueKind, host_number, host_type};
+use ante_wtree::{
+    FuncType, Import, ImportKind, Module, ValueKind, host_number, host_type, same_type,
+};
 use std::alloc::{AllocError, Global};
 
 /// What an import is looked at for.
@@ -40,7 +42,7 @@ fn is_known(import: &Import) -> bool
 
 /// The type that hosts give the function of this name.
 fn host_type_of(name: &[u8]) -> Option<(&'static [ValueKind], Option<ValueKind>)>
-    ensures { (params : List ValueKind) (gives : Option ValueKind) → (option_map {U = List ValueKind × Option ValueKind} (λ t. (t.0.now, t.1)) result ≡ Some (params, gives)) ↔ HostType name.now params gives }
+    ensures { Tells name.now (option_map (λ t. (t.0.now, t.1)) result) }
 {
     match host_number(name) {
         Some(host) => host_type(host),
@@ -82,7 +84,7 @@ fn import_at(imports: &[Import], at: usize) -> Option<&Import>
 
 /// The first import that doesn't meet the rule.
 pub fn first_refused(rule: ImportRule, module: &Module) -> Option<usize>
-    ensures { MatchOption result ((k : ℕ) → IsRefused module.now.types rule module.now.imports k → ⊥) (λ at. IsRefused module.now.types rule module.now.imports at × ((k : ℕ) → k < at → IsRefused module.now.types rule module.now.imports k → ⊥)) }
+    ensures { FindsFirst (λ at. at) (IsRefused module.now.types rule module.now.imports) result }
 {
     let imports = module.imports.as_slice();
     let mut at = 0;

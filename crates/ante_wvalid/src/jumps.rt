@@ -1,9 +1,8 @@
-ghost use Rattle.std.specs.Prelude.{◌≡◌, ◌↔◌, ◌∷◌, [], List, Option, Some, slice_get, IsTrue, IfOk, All, true};
-ghost use Rattle.ante_wtree.specs.declared.instructions.ValueKind.TheVariants.{I32};
-ghost use Rattle.ante_wvalid.specs.Typing.{Pops, Turns, Then, With, Where, Moves, Leaves, Calls, type_of, type_numbered, kinds_of};
-ghost use Rattle.ante_wvalid.specs.State.{Carries, context_in};
+ghost use Rattle.std.specs.Prelude.{◌≡◌, ◌↔◌, [], Some, slice_get, IsTrue, IfOk, All};
+ghost use Rattle.ante_wvalid.specs.Typing.{With, Leaves, LeavesIf, LeavesAmong, CallsNamed, CallsByTable, Grows};
+ghost use Rattle.ante_wvalid.specs.OperandStacks.{Carries, CarriesPlain, context_in};
 
-use crate::known::Known;
+use crate::operand_types::OperandTypes;
 use crate::scope::{Scope, Signature, function_type, kinds, numbered};
 use ante_stack::Stack;
 use ante_wtree::{PlainInstr, ValueKind};
@@ -13,9 +12,9 @@ pub fn plain(
     scope: &Scope<'_>,
     alloc: Global,
     instr: PlainInstr,
-    operands: &mut Known,
+    operands: &mut OperandTypes,
 ) -> Result<bool, AllocError>
-    ensures { IfOk result (λ typed. (labels : List (Option ValueKind)) → Carries (Moves (type_of (context_in scope.now labels) instr)) typed operands.old operands.new) }
+    ensures { IfOk result (λ typed. CarriesPlain scope.now instr typed operands.old operands.new) }
 {
     match scope.signature(instr) {
         Signature::Fixed(takes, gives) => operands.turn(alloc, takes, gives),
@@ -29,7 +28,7 @@ pub fn plain(
     }
 }
 
-pub fn leave(label: Option<ValueKind>, operands: &mut Known) -> bool
+pub fn leave(label: Option<ValueKind>, operands: &mut OperandTypes) -> bool
     ensures { Carries (Leaves label) result operands.old operands.new }
 {
     if !operands.pop_all(kinds(label)) {
@@ -39,7 +38,7 @@ pub fn leave(label: Option<ValueKind>, operands: &mut Known) -> bool
     true
 }
 
-pub fn jump(labels: &Stack<Option<ValueKind>>, n: u32, operands: &mut Known) -> bool
+pub fn jump(labels: &Stack<Option<ValueKind>>, n: u32, operands: &mut OperandTypes) -> bool
     ensures { Carries (With (slice_get labels.now n) Leaves) result operands.old operands.new }
 {
     match labels.at(n as usize) {
@@ -52,9 +51,9 @@ pub fn jump_if(
     labels: &Stack<Option<ValueKind>>,
     alloc: Global,
     n: u32,
-    operands: &mut Known,
+    operands: &mut OperandTypes,
 ) -> Result<bool, AllocError>
-    ensures { IfOk result (λ typed. Carries (With (slice_get labels.now n) (λ label. Then (Pops (I32 ∷ [])) (Turns (kinds_of label) (kinds_of label)))) typed operands.old operands.new) }
+    ensures { IfOk result (λ typed. Carries (With (slice_get labels.now n) LeavesIf) typed operands.old operands.new) }
 {
     let Some(label) = labels.at(n as usize) else {
         return Ok(false);
@@ -89,9 +88,9 @@ pub fn jump_among(
     labels: &Stack<Option<ValueKind>>,
     targets: &[u32],
     n: u32,
-    operands: &mut Known,
+    operands: &mut OperandTypes,
 ) -> bool
-    ensures { Carries (With (slice_get labels.now n) (λ label. Where (All (λ k. slice_get labels.now k ≡ Some label) targets.now) (Then (Pops (I32 ∷ [])) (Leaves label)))) result operands.old operands.new }
+    ensures { Carries (With (slice_get labels.now n) (LeavesAmong labels.now targets.now)) result operands.old operands.new }
 {
     let Some(label) = labels.at(n as usize) else {
         return false;
@@ -109,9 +108,9 @@ pub fn call(
     scope: &Scope<'_>,
     alloc: Global,
     f: u32,
-    operands: &mut Known,
+    operands: &mut OperandTypes,
 ) -> Result<bool, AllocError>
-    ensures { IfOk result (λ typed. Carries (With (type_numbered scope.now.types.now (slice_get scope.now.functions.now f)) Calls) typed operands.old operands.new) }
+    ensures { IfOk result (λ typed. Carries (CallsNamed (context_in scope.now []) f) typed operands.old operands.new) }
 {
     match function_type(scope.types, scope.functions, f) {
         Some(callee) => {
@@ -125,9 +124,9 @@ pub fn call_by_table(
     scope: &Scope<'_>,
     alloc: Global,
     number: u32,
-    operands: &mut Known,
+    operands: &mut OperandTypes,
 ) -> Result<bool, AllocError>
-    ensures { IfOk result (λ typed. Carries (Where (scope.now.table ≡ true) (With (slice_get scope.now.types.now number) (λ t. Then (Pops (I32 ∷ [])) (Calls t)))) typed operands.old operands.new) }
+    ensures { IfOk result (λ typed. Carries (CallsByTable (context_in scope.now []) number) typed operands.old operands.new) }
 {
     if !scope.table {
         return Ok(false);
@@ -141,8 +140,12 @@ pub fn call_by_table(
     operands.turn(alloc, callee.params.as_slice(), callee.results.as_slice())
 }
 
-pub fn grow(scope: &Scope<'_>, alloc: Global, operands: &mut Known) -> Result<bool, AllocError>
-    ensures { IfOk result (λ typed. Carries (Where (scope.now.memory ≡ true) (Turns (I32 ∷ []) (I32 ∷ []))) typed operands.old operands.new) }
+pub fn grow(
+    scope: &Scope<'_>,
+    alloc: Global,
+    operands: &mut OperandTypes,
+) -> Result<bool, AllocError>
+    ensures { IfOk result (λ typed. Carries (Grows (context_in scope.now [])) typed operands.old operands.new) }
 {
     if !scope.memory {
         return Ok(false);

@@ -2,7 +2,7 @@
 //! laws.
 
 ghost use Rattle.ante_wtree.specs.Trees.{Tree};
-ghost use Rattle.ante_wvalid.specs.Answers.{HasOneFirst};
+ghost use Rattle.ante_wvalid.specs.Refusals.{HasOneFirst};
 
 /// A module has one first kind at most.
 pub fn one_first_kind()

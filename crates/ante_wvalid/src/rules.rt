@@ -2,21 +2,21 @@ ghost use Rattle.std.specs.Prelude.{◌≡◌, ◌↔◌, ◌⊎◌, ◌+◌, �
 ghost use Rattle.ante_wtree.specs.declared.instructions.ValueKind.TheVariants.{I32};
 ghost use Rattle.ante_wtree.specs.Trees.{tree_of};
 ghost use Rattle.ante_wvalid.specs.declared.kinds.ModuleRule.TheVariants as rule;
-ghost use Rattle.ante_wvalid.specs.Modules.{rule_place, Breaks, OutOfBounds, IsConstant, Twice, HasType, IsApply, HasApply, constant_kind, count, function_types};
+ghost use Rattle.ante_wvalid.specs.Modules.{rule_place, Breaks, FindsFirst, OutOfBounds, IsConstant, constant_kind};
+ghost use Rattle.ante_wvalid.specs.Modules.{Twice, HasType, IsApply, HasApply, count, function_types};
 
 use crate::kinds::ModuleRule;
 use crate::repeats::export_twice;
 use crate::scope::function_type;
+use ante_wmem::limits::MOST_MEMORY_PAGES;
+use ante_wtree::limits::MOST_TABLE_ELEMENTS;
 use ante_wtree::{
     Element, Export, ExportKind, FuncType, Global, Init, Limits, Module, Segment, ValueKind,
+    same_type,
 };
 use std::alloc::{AllocError, Global as Heap};
 
 const L: ValueKind = ValueKind::I64;
-
-const PAGES: u32 = 528;
-
-const ELEMENTS: u32 = 8_192;
 
 fn is_out_of_bounds(bound: u32, limits: Limits) -> bool
     ensures { IsTrue result ↔ OutOfBounds bound limits }
@@ -73,8 +73,8 @@ fn any_out_of_bounds(bound: u32, limits: &[Limits]) -> bool
 fn bounds(module: &Module) -> bool
     ensures { IsTrue result ↔ Breaks (tree_of module.now) rule.Bounds }
 {
-    any_out_of_bounds(ELEMENTS, module.table.as_slice())
-        || any_out_of_bounds(PAGES, module.memory.as_slice())
+    any_out_of_bounds(MOST_TABLE_ELEMENTS, module.table.as_slice())
+        || any_out_of_bounds(MOST_MEMORY_PAGES, module.memory.as_slice())
 }
 
 fn global_init(module: &Module) -> bool
@@ -222,7 +222,7 @@ pub fn first_broken(
     functions: &[u32],
 ) -> Result<Option<ModuleRule>, AllocError>
     requires { functions.now ≡ function_types (tree_of module.now) }
-    ensures { IfOk result (λ found. MatchOption found ((r : ModuleRule) → Breaks (tree_of module.now) r → ⊥) (λ r. Breaks (tree_of module.now) r × ((s : ModuleRule) → rule_place s < rule_place r → Breaks (tree_of module.now) s → ⊥))) }
+    ensures { IfOk result (FindsFirst rule_place (Breaks (tree_of module.now))) }
 {
     let mut rule = ModuleRule::TypeIndex;
     'rules: loop {
@@ -240,18 +240,6 @@ pub fn same_bytes(one: &[u8], two: &[u8]) -> bool
     ensures { IsTrue result ↔ (one.now ≡ two.now) }
 {
     one == two
-}
-
-fn same_kinds(one: &[ValueKind], two: &[ValueKind]) -> bool
-    ensures { IsTrue result ↔ (one.now ≡ two.now) }
-{
-    one == two
-}
-
-pub fn same_type(found: &FuncType, params: &[ValueKind], results: &[ValueKind]) -> bool
-    ensures { IsTrue result ↔ ((found.now.params ≡ params.now) × (found.now.results ≡ results.now)) }
-{
-    same_kinds(found.params.as_slice(), params) && same_kinds(found.results.as_slice(), results)
 }
 
 /// Whether a function has this type.

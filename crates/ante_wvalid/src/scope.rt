@@ -1,10 +1,15 @@
 ghost use Rattle.std.specs.Prelude.{◌≡◌, ◌&&◌, List, ◌∷◌, ◌++◌, Option, Some, nat_le, slice_get};
 ghost use Rattle.ante_wtree.specs.declared.instructions.ValueKind.TheVariants.{I32};
 ghost use Rattle.std.specs.Option.{option_copied};
-ghost use Rattle.ante_wvalid.specs.Typing.{kinds_of, type_of, only_if, type_numbered, load_result, load_exponent, store_operand, store_exponent};
-ghost use Rattle.ante_wvalid.specs.State.{context_in, type_in};
+ghost use Rattle.ante_wtree.specs.Accesses.{load_exponent, load_result, store_exponent, store_operand};
+ghost use Rattle.ante_wtree.specs.Types.{kinds_of};
+ghost use Rattle.ante_wvalid.specs.Typing.{type_of, only_if, type_numbered};
+ghost use Rattle.ante_wvalid.specs.OperandStacks.{context_in, type_in};
 
-use ante_wtree::{FuncType, Global, LoadKind, PlainInstr, StoreKind, ValueKind};
+use ante_wtree::{
+    FuncType, Global, LoadKind, PlainInstr, StoreKind, ValueKind, exponent, load_result,
+    load_width, store_operand, store_width,
+};
 
 const I: ValueKind = ValueKind::I32;
 
@@ -51,32 +56,18 @@ pub fn kinds(kind: Option<ValueKind>) -> &'static [ValueKind]
     }
 }
 
+/// What a load gives, and the most that it may be aligned to, as an exponent.
 fn loaded(kind: LoadKind) -> (ValueKind, u32)
     ensures { result ≡ (load_result kind, load_exponent kind) }
 {
-    match kind {
-        LoadKind::I32 => (ValueKind::I32, 2),
-        LoadKind::I64 => (ValueKind::I64, 3),
-        LoadKind::I32S8 | LoadKind::I32U8 => (ValueKind::I32, 0),
-        LoadKind::I32S16 | LoadKind::I32U16 => (ValueKind::I32, 1),
-        LoadKind::I64S8 | LoadKind::I64U8 => (ValueKind::I64, 0),
-        LoadKind::I64S16 | LoadKind::I64U16 => (ValueKind::I64, 1),
-        LoadKind::I64S32 | LoadKind::I64U32 => (ValueKind::I64, 2),
-    }
+    (load_result(kind), exponent(load_width(kind)))
 }
 
+/// What a store takes, and the most that it may be aligned to, as an exponent.
 fn stored(kind: StoreKind) -> (ValueKind, u32)
     ensures { result ≡ (store_operand kind, store_exponent kind) }
 {
-    match kind {
-        StoreKind::I32 => (ValueKind::I32, 2),
-        StoreKind::I64 => (ValueKind::I64, 3),
-        StoreKind::I32As8 => (ValueKind::I32, 0),
-        StoreKind::I32As16 => (ValueKind::I32, 1),
-        StoreKind::I64As8 => (ValueKind::I64, 0),
-        StoreKind::I64As16 => (ValueKind::I64, 1),
-        StoreKind::I64As32 => (ValueKind::I64, 2),
-    }
+    (store_operand(kind), exponent(store_width(kind)))
 }
 
 /// What a store takes: an address, and a value on top of it.

@@ -1,7 +1,7 @@
 ghost use Rattle.std.specs.Prelude.{◌≡◌, IfOk, IfErr, MatchOption};
 ghost use Rattle.ante_wtree.specs.Trees.{tree_of};
 ghost use Rattle.ante_wvalid.specs.Modules.{IsValid, IsFirstInvalid, function_types};
-ghost use Rattle.ante_wvalid.specs.Answers.{Refuses, Clear};
+ghost use Rattle.ante_wvalid.specs.Refusals.{Refuses, Clear};
 
 use crate::functions::{first_untyped, function_number};
 use crate::imports::{ImportRule, first_refused, function_types};
@@ -36,6 +36,7 @@ impl Model for ValidModule {
 }
 
 impl ValidModule {
+    /// The module, which every rule allows.
     pub fn module(&self) -> &Module
         ensures module { result.now ≡ self.now }
         ensures valid { IsValid (tree_of result.now) }

@@ -1,8 +1,9 @@
 use Rattle.std.proofs.Common.{[], ◌∷◌, refl, sym, subst}
 use Rattle.ante_wtree.specs.declared.instructions.ValueKind.TheVariants.{I32}
 use Rattle.ante_wtree.specs.Expressions.{expression_of}
-use Rattle.ante_wvalid.specs.Typing.{Typed, Turns, inside, kinds_of}
-use Rattle.ante_wvalid.specs.State.{Carries, context_in, step_of}
+use Rattle.ante_wtree.specs.Types.{kinds_of}
+use Rattle.ante_wvalid.specs.Typing.{Typed, Turns, inside}
+use Rattle.ante_wvalid.specs.OperandStacks.{Carries, context_in, step_of}
 use Rattle.ante_wvalid.proofs.Carrying.{later, turns_as, where_yes}
 use Rattle.ante_wvalid.proofs.Passing.{stops}
 use Rattle.ante_wvalid.proofs.bodies.+bodies.Goals as goal

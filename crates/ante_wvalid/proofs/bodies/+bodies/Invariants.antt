@@ -1,6 +1,6 @@
 use Rattle.std.proofs.Common.{◌≡◌, ◌+◌, ◌*◌, length}
 use Rattle.ante_wtree.specs.Expressions.{expression_of}
-use Rattle.ante_wvalid.specs.State.{context_in}
+use Rattle.ante_wvalid.specs.OperandStacks.{context_in}
 use Rattle.ante_wvalid.proofs.Nodes.{nodes, size_of}
 use Rattle.ante_wvalid.proofs.Passing.{SoFar}
 use Rattle.ante_wvalid.proofs.bodies.+bodies.Given as goal

@@ -1,5 +1,5 @@
 use Rattle.std.proofs.Common.{ap, subst, sym, slice_get, ◌∙◌}
-use Rattle.ante_wvalid.specs.State.{Meets, IsRefused}
+use Rattle.ante_wvalid.specs.OperandStacks.{Meets, IsRefused}
 use Rattle.ante_wvalid.proofs.Places.{one_further, get_past, that_one}
 use Rattle.ante_wvalid.proofs.imports.first_refused.Goals as goal
 

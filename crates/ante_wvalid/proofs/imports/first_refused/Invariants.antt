@@ -1,5 +1,5 @@
 use Rattle.std.proofs.Common.{ℕ, ◌<◌, ◌-◌, length}
-use Rattle.ante_wvalid.specs.State.{IsRefused}
+use Rattle.ante_wvalid.specs.OperandStacks.{IsRefused}
 use Rattle.ante_wvalid.proofs.imports.first_refused.Given as goal
 
 abbrev pub invariant-imports : goal.invariant-imports

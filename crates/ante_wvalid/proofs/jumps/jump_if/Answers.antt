@@ -1,6 +1,7 @@
 use Rattle.std.proofs.Common.{[], ◌∷◌, sym, false}
 use Rattle.ante_wtree.specs.declared.instructions.ValueKind.TheVariants.{I32}
-use Rattle.ante_wvalid.specs.Typing.{Pops, Turns, Then, kinds_of}
+use Rattle.ante_wtree.specs.Types.{kinds_of}
+use Rattle.ante_wvalid.specs.Typing.{Pops, Turns, Then}
 use Rattle.ante_wvalid.proofs.Carrying.{later, turns_as, with_some, then_no, then_yes}
 use Rattle.ante_wvalid.proofs.jumps.jump_if.Goals as goal
 

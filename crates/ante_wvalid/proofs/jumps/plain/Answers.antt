@@ -1,12 +1,12 @@
 use Rattle.std.proofs.Common.{◌≡◌, sym, subst, Bool}
-use Rattle.ante_wvalid.specs.declared.known.Known.{Known}
+use Rattle.ante_wvalid.specs.declared.operand_types.OperandTypes.{OperandTypes}
 use Rattle.ante_wvalid.specs.declared.scope.Signature.{Signature}
 use Rattle.ante_wvalid.specs.Typing.{InstrType, Moves, type_of}
-use Rattle.ante_wvalid.specs.State.{Carries, context_in, type_in}
+use Rattle.ante_wvalid.specs.OperandStacks.{Carries, context_in, type_in}
 use Rattle.ante_wvalid.proofs.Carrying.{later}
 use Rattle.ante_wvalid.proofs.jumps.plain.Goals as goal
 
-as_type : (found s : Signature) (t : InstrType) (y : Bool) (old new : Known) → type_in found ≡ t → found ≡ s → Carries (Moves (type_in s)) y old new → Carries (Moves t) y old new
+as_type : (found s : Signature) (t : InstrType) (y : Bool) (old new : OperandTypes) → type_in found ≡ t → found ≡ s → Carries (Moves (type_in s)) y old new → Carries (Moves t) y old new
 as_type found s t y old new e is h = subst (λ x. Carries (Moves x) y old new) e (subst (λ x. Carries (Moves (type_in x)) y old new) (sym is) h)
 
 pub returns-in-Fixed : goal.returns-in-Fixed

@@ -1,5 +1,5 @@
 use Rattle.ante_wvalid.proofs.Carrying.{are_yes, is_nothing, nothing_is}
-use Rattle.ante_wvalid.proofs.known.Known.are.Goals as goal
+use Rattle.ante_wvalid.proofs.operand_types.OperandTypes.are.Goals as goal
 
 pub returns : goal.returns
 returns c =

@@ -1,6 +1,6 @@
 use Rattle.std.proofs.Common.{true, false}
 use Rattle.ante_wvalid.proofs.Carrying.{selects, selects_not, two_none, two_one, two_apart, two_yes}
-use Rattle.ante_wvalid.proofs.known.Known.select.Goals as goal
+use Rattle.ante_wvalid.proofs.operand_types.OperandTypes.select.Goals as goal
 
 pub returns-then-not-pop_kind : goal.returns-then-not-pop_kind
 returns-then-not-pop_kind c = selects_not c.pop_kind.result c.args.self.now c.pop_kind.new.self c.pop_kind.new.self c.pop_kind.ensures c.if-not-pop_kind.true

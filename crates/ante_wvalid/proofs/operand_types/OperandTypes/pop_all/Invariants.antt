@@ -1,6 +1,6 @@
 use Rattle.std.proofs.Common.{length}
 use Rattle.ante_wvalid.proofs.Carrying.{Popping}
-use Rattle.ante_wvalid.proofs.known.Known.pop_all.Given as goal
+use Rattle.ante_wvalid.proofs.operand_types.OperandTypes.pop_all.Given as goal
 
 abbrev pub invariant-kinds : goal.invariant-kinds
 invariant-kinds l = Popping l.fn.kinds l.rest l.fn.self l.self

@@ -1,6 +1,6 @@
 ghost use Rattle.std.specs.Prelude.{◌≡◌, ◌↔◌, true, [], ◌∷◌, IsTrue, IfOk, OnOk, MatchOption};
 ghost use Rattle.ante_wvalid.specs.Typing.{Operands, onto, Pops, Pushes, Turns, Anything, Dropped, Selected};
-ghost use Rattle.ante_wvalid.specs.State.{Of, Fits, Same, Carries};
+ghost use Rattle.ante_wvalid.specs.OperandStacks.{Admits, Same, Joins, Tops, Carries};
 
 use ante_stack::Stack;
 use ante_wtree::ValueKind;
@@ -8,14 +8,14 @@ use std::alloc::{AllocError, Global};
 
 /// What is known of the stack of operands: the kinds on top, some of them unknown, and whether anything may lie below.
 #[derive(Drop)]
-pub struct Known {
+pub struct OperandTypes {
     pub kinds: Stack<Option<ValueKind>>,
     pub bottomless: bool,
 }
 
 /// What two kinds that must agree are known to be, or nothing where they can't.
 fn joined(one: Option<ValueKind>, two: Option<ValueKind>) -> Option<Option<ValueKind>>
-    ensures { MatchOption result ((k : ValueKind) → Fits one k → Fits two k → ⊥) (λ both. (k : ValueKind) → Same (Fits one k × Fits two k) (Fits both k)) }
+    ensures { Joins one two result }
 {
     match (one, two) {
         (None, other) => Some(other),
@@ -30,12 +30,12 @@ fn joined(one: Option<ValueKind>, two: Option<ValueKind>) -> Option<Option<Value
     }
 }
 
-impl Known {
+impl OperandTypes {
     /// No operands.
-    pub fn new(alloc: Global) -> Known
-        ensures { (s : Operands) → Same (s ≡ []) (Of result s) }
+    pub fn new(alloc: Global) -> OperandTypes
+        ensures { (s : Operands) → Same (s ≡ []) (Admits result s) }
     {
-        Known {
+        OperandTypes {
             kinds: Stack::new(alloc),
             bottomless: false,
         }
@@ -43,7 +43,7 @@ impl Known {
 
     /// What is known of the topmost operand, or nothing where there is none.
     fn pop_any(&mut self) -> Option<Option<ValueKind>>
-        ensures { MatchOption result ((k : ValueKind) (s : Operands) → Of self.old (k ∷ s) → ⊥) (λ known. (k : ValueKind) (s : Operands) → Same (Of self.old (k ∷ s)) (Fits known k × Of self.new s)) }
+        ensures { Tops self.old result self.new }
     {
         match self.kinds.pop() {
             Some(known) => Some(known),
@@ -148,7 +148,7 @@ impl Known {
 
     /// Whether these kinds can be all there are.
     pub fn are(&mut self, kinds: &[ValueKind]) -> bool
-        ensures { IsTrue result ↔ Of self.old (onto kinds.now []) }
+        ensures { IsTrue result ↔ Admits self.old (onto kinds.now []) }
     {
         if !self.pop_all(kinds) {
             return false;
