@@ -13,7 +13,7 @@ use Rattle.ante_wtree.specs.declared.modules.ImportKind.TheVariants as import
 use Rattle.ante_wtree.specs.Intrinsics.{names, name_at, type_at}
 use Rattle.ante_wtree.specs.Trees.{Tree, Body}
 use Rattle.ante_wvalid.specs.declared.kinds.InvalidKind.TheVariants as invalid
-use Rattle.ante_wvalid.specs.Typing.{kinds_of}
+use Rattle.ante_wtree.specs.Types.{kinds_of}
 use Rattle.ante_wvalid.specs.Modules.{HasHostType, IsValid}
 use Rattle.ante_wmeaning.specs.Configurations.{Given}
 use Rattle.ante_wmeaning.specs.ValueTypes.{result_of}

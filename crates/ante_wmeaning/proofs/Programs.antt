@@ -17,8 +17,10 @@ use Rattle.ante_wtree.specs.Intrinsics.{names, name_at}
 use Rattle.ante_wtree.specs.Trees.{Tree, Body}
 use Rattle.ante_wvalid.specs.declared.kinds.ModuleRule.TheVariants as rule
 use Rattle.ante_wvalid.specs.declared.kinds.InvalidKind.TheVariants as invalid
-use Rattle.ante_wvalid.specs.Typing.{Typed, kinds_of, type_numbered}
-use Rattle.ante_wvalid.specs.Modules.{IsValid, IsFunctionTyped, imported, function_of, function_types, first_of, context_of}
+use Rattle.ante_wtree.specs.Types.{kinds_of}
+use Rattle.ante_wvalid.specs.Typing.{Typed, type_numbered}
+use Rattle.ante_wtree.specs.Types.{result_of as first_of}
+use Rattle.ante_wvalid.specs.Modules.{IsValid, IsFunctionTyped, imported, function_of, function_types, context_of}
 use Rattle.ante_wmeaning.specs.Configurations.{FunctionInstance, Own, Given}
 use Rattle.ante_wmeaning.specs.Instantiation.{host_place, given, given_as, given_functions, own, own_functions, offset_of, empty_table, with_element, program_in}
 use Rattle.ante_wmeaning.specs.TypedPrograms.{IsOf, IsTyped}

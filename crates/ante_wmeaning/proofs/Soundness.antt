@@ -11,8 +11,10 @@ use Rattle.ante_wtree.specs.declared.instructions.ValueKind.{ValueKind}
 use Rattle.ante_wtree.specs.declared.modules.FuncType.{FuncType}
 use Rattle.ante_wtree.specs.Expressions.{Expression, Over, Plain, Block, Loop, If, Br, BrIf, BrTable, Return, Call, CallIndirect, MemoryGrow}
 use Rattle.ante_wtree.specs.Trees.{Tree}
-use Rattle.ante_wvalid.specs.Typing.{Context, Operands, Typed, inside, kinds_of, type_numbered}
-use Rattle.ante_wvalid.specs.Modules.{function_types, first_of, context_of}
+use Rattle.ante_wtree.specs.Types.{kinds_of}
+use Rattle.ante_wvalid.specs.Typing.{Context, Operands, Typed, inside, type_numbered}
+use Rattle.ante_wtree.specs.Types.{result_of as first_of}
+use Rattle.ante_wvalid.specs.Modules.{function_types, context_of}
 use Rattle.ante_wmeaning.specs.PlainInstructions.{Effect, Next, Traps, NoRule, effect, low}
 use Rattle.ante_wmeaning.specs.Environment.{after_look, after_item}
 use Rattle.ante_wmeaning.specs.Configurations.{FunctionInstance, Own, Given, Missing, Program, State, Outcome, Normal, Branch, Returned, Ended, Lacks, InHost, Stuck, stack_of, on_stack, with_values}

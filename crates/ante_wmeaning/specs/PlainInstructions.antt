@@ -1,7 +1,7 @@
 -- What the plain instructions do: sections 4.4.1 to 4.4.4 of WebAssembly Core 1.0.
 use Rattle.std.specs.Prelude.{ℕ, ◌+◌, ◌%◌, ◌^◌, ◌&&◌, ◌==◌, nat_lt, nat_le, Bool, true, if◌then◌else◌, List, length, [], ◌∷◌, slice_index, slice_set, Result, Ok, Err}
-use Rattle.ante_wnum.specs.Integers.{signed, unsigned}
-use Rattle.ante_wnum.specs.Instructions.{unary_of, binary_of, compare_of}
+use Rattle.ante_wnum.specs.Numerics.{signed, unsigned}
+use Rattle.ante_wnum.specs.NumericInstructions.{unary_of, binary_of, compare_of}
 use Rattle.ante_wnum.specs.declared.NumTrap.{NumTrap}
 use Rattle.ante_wnum.specs.declared.NumTrap.TheVariants as num
 use Rattle.ante_wmem.specs.Linear.{LinearMemory, page_count, is_inside, bytes_at, written, little_endian, low_bytes, byte_count}

@@ -3,8 +3,10 @@ use Rattle.std.specs.Prelude.{◌≡◌, ℕ, ◌≤◌, List, [], length, slice
 use Rattle.ante_wtree.specs.declared.instructions.ValueKind.{ValueKind}
 use Rattle.ante_wtree.specs.declared.modules.FuncType.{FuncType}
 use Rattle.ante_wtree.specs.Trees.{Tree}
-use Rattle.ante_wvalid.specs.Typing.{Typed, kinds_of, type_numbered}
-use Rattle.ante_wvalid.specs.Modules.{function_types, first_of, context_of}
+use Rattle.ante_wtree.specs.Types.{kinds_of}
+use Rattle.ante_wvalid.specs.Typing.{Typed, type_numbered}
+use Rattle.ante_wtree.specs.Types.{result_of as first_of}
+use Rattle.ante_wvalid.specs.Modules.{function_types, context_of}
 use Rattle.ante_wmeaning.specs.Configurations.{FunctionInstance, Own, Given, Missing, Program}
 
 -- A function of this type: an own one has a typed body, and as many locals as this was typed with.

@@ -6,7 +6,7 @@ use Rattle.ante_wmem.specs.Linear.{LinearMemory}
 use Rattle.ante_wtree.specs.declared.instructions.Instr.{Instr}
 use Rattle.ante_wtree.specs.declared.instructions.Instr.TheVariants as instr
 use Rattle.ante_wtree.specs.declared.instructions.PlainInstr.{PlainInstr}
-use Rattle.ante_wtree.specs.Expressions.{Expression, Plain, put}
+use Rattle.ante_wtree.specs.Expressions.{Expression, Plain, cons}
 use Rattle.ante_wmeaning.specs.declared.ends.TrapKind.{TrapKind}
 use Rattle.ante_wrun.specs.declared.plain.Tried.TheVariants as tried
 use Rattle.ante_wmeaning.specs.PlainInstructions.{Values, Next, Traps, NoRule, effect, operands, done}
@@ -16,7 +16,7 @@ use Rattle.ante_wrun.specs.ThreadStates.{values_in, TriesPlain, Ready, plain_of}
 some_is : {A : Type 0} (x y : A) → Some x ≡ Some y → x ≡ y
 some_is x y h = cc
 
-pub plain_put : (i : Instr) (op : PlainInstr) (rest : Expression) → plain_of i ≡ Some op → put i rest ≡ Plain op rest
+pub plain_put : (i : Instr) (op : PlainInstr) (rest : Expression) → plain_of i ≡ Some op → cons i rest ≡ Plain op rest
 plain_put instr.Unreachable op rest e = ap (λ o. Plain o rest) (some_is _ _ e)
 plain_put instr.Nop op rest e = ap (λ o. Plain o rest) (some_is _ _ e)
 plain_put (instr.Block' kind shape body) op rest e = cc

@@ -8,7 +8,7 @@ use Rattle.ante_wmem.specs.Linear.{LinearMemory}
 use Rattle.ante_wmem.specs.HostCalls.{HostMeaning}
 use Rattle.ante_wtree.specs.declared.instructions.Instr.{Instr}
 use Rattle.ante_wtree.specs.declared.instructions.PlainInstr.{PlainInstr}
-use Rattle.ante_wtree.specs.Expressions.{expression_of, put}
+use Rattle.ante_wtree.specs.Expressions.{expression_of, cons}
 use Rattle.ante_wmeaning.specs.declared.ends.TrapKind.{TrapKind}
 use Rattle.ante_wmeaning.specs.declared.ends.RunEnd.TheVariants as end
 use Rattle.ante_wrun.specs.declared.plain.Tried.TheVariants as tried
@@ -37,13 +37,13 @@ not_due left r = let le : round (suc left) ≤ round left = omega (arith, r) in 
 module _ {W R : Type 0} (host : HostMeaning W R) (program : Program) (free : ℕ) (frames : List Frame) (w : W) where
   -- the outcome of the whole, where this instruction's step is paid
   abbrev pub acting : Instr → List Instr → FrameValues → State W → Outcome W R
-  acting i rest v s = under host program free v.below frames (acts program (call host program free) (put i (expression_of rest)) s)
+  acting i rest v s = under host program free v.below frames (acts program (call host program free) (cons i (expression_of rest)) s)
 
   pub paid_step : (i : Instr) (rest : List Instr) (v : FrameValues) (g : List ℕ) (m : LinearMemory) (left : ℕ) (o : Environment) → 0 < left % 1024 → o.item_lacks o.items ≡ false →
       goes host program free frames (i ∷ rest) v (stepping v g m w left o) ≡ acting i rest v (stepping v g m w (left - 1) (after_item o))
   paid_step i rest v g m left o r h =
       let s = stepping v g m w left o in
-      let first = acts program (call host program free) (put i (expression_of rest)) in
+      let first = acts program (call host program free) (cons i (expression_of rest)) in
       let n = left - 1 in
       let e : left ≡ suc n = omega (arith, r) in
       ap (under host program free v.below frames)

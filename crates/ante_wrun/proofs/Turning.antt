@@ -10,7 +10,7 @@ use Rattle.ante_wmem.specs.declared.host.HostAnswer.TheVariants as answer
 use Rattle.ante_wtree.specs.declared.instructions.Instr.{Instr}
 use Rattle.ante_wtree.specs.declared.instructions.Instr.TheVariants as instr
 use Rattle.ante_wtree.specs.declared.modules.FuncType.{FuncType}
-use Rattle.ante_wtree.specs.Expressions.{Expression, Over, expression_of, put}
+use Rattle.ante_wtree.specs.Expressions.{Expression, Over, expression_of, cons}
 use Rattle.ante_wmeaning.specs.declared.ends.RunEnd.{RunEnd}
 use Rattle.ante_wmeaning.specs.declared.ends.RunEnd.TheVariants as end
 use Rattle.ante_wrun.specs.declared.blocks.Frame.{Frame}
@@ -84,7 +84,7 @@ module _ {S W R : Type 0} where
 
 -- ---- the step itself
 
-pub starts_put : {W R : Type 0} (i : Instr) (rest : Expression) (first : State W → Outcome W R) (s : State W) → starts (put i rest) first s ≡ step s first
+pub starts_put : {W R : Type 0} (i : Instr) (rest : Expression) (first : State W → Outcome W R) (s : State W) → starts (cons i rest) first s ≡ step s first
 starts_put instr.Unreachable rest first s = refl
 starts_put instr.Nop rest first s = refl
 starts_put (instr.Block' kind shape body) rest first s = refl
@@ -162,7 +162,7 @@ module _ {W R : Type 0} (host : HostMeaning W R) (program : Program) where
   in_host free below (frame.Call kind base locals above rest ∷ frames) f args a n s = in_host above (take base below) frames f args a n s
 
   abbrev pub first_of : Thread → Bor Instr → State W → Outcome W R
-  first_of t i = acts program (call host program t.free) (put i.now (expression_of t.code.now))
+  first_of t i = acts program (call host program t.free) (cons i.now (expression_of t.code.now))
 
   step_is : (o : Outcome W R) (t : Thread) (i : Bor Instr) (s : State W) → Finds host program o (Some i) t s → o ≡ whole host program t (step s (first_of t i))
   step_is o t i s h = h ∙ ap (whole host program t) (starts_put i.now (expression_of t.code.now) (first_of t i) s)

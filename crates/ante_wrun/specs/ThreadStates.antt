@@ -5,7 +5,7 @@ use Rattle.ante_wmem.specs.Linear.{LinearMemory}
 use Rattle.ante_wmem.specs.HostCalls.{HostMeaning}
 use Rattle.ante_wtree.specs.declared.instructions.Instr.{Instr}
 use Rattle.ante_wtree.specs.declared.instructions.PlainInstr.{PlainInstr}
-use Rattle.ante_wtree.specs.Expressions.{Expression, Over, Plain, Block, Loop, If, Br, BrIf, BrTable, Return, Call, CallIndirect, MemoryGrow, expression_of, put}
+use Rattle.ante_wtree.specs.Expressions.{Expression, Over, Plain, Block, Loop, If, Br, BrIf, BrTable, Return, Call, CallIndirect, MemoryGrow, expression_of, cons}
 use Rattle.ante_wrun.specs.declared.data.Data.{Data}
 use Rattle.ante_wrun.specs.declared.plain.Tried.{Tried}
 use Rattle.ante_wrun.specs.declared.plain.Tried.TheVariants as tried
@@ -50,7 +50,7 @@ plain_at (CallIndirect t rest) = None
 plain_at (MemoryGrow rest) = None
 
 abbrev pub plain_of : Instr → Option PlainInstr
-plain_of i = plain_at (put i Over)
+plain_of i = plain_at (cons i Over)
 
 -- it finds its operands, and the local or global that it names
 abbrev pub Ready : Option PlainInstr → Values → Type 0
@@ -138,4 +138,4 @@ module _ {W R : Type 0} (host : HostMeaning W R) (program : Program) where
   -- the instruction that is next, with the rest after it
   abbrev pub Finds : Outcome W R → Option (Bor Instr) → Thread → State W → Type 0
   Finds o None t s = o ≡ Normal s
-  Finds o (Some i) t s = o ≡ whole t (does program (call host program t.free) (put i.now (expression_of t.code.now)) s)
+  Finds o (Some i) t s = o ≡ whole t (does program (call host program t.free) (cons i.now (expression_of t.code.now)) s)

@@ -1,6 +1,6 @@
 //! Control instructions that stay within their function (section 4.4.5), on its values and open bodies.
 ghost use Rattle.std.specs.Prelude.{◌≡◌, ℕ, ◌==◌, if◌then◌else◌, None, Some, length, drop, slice_get, slice_index_or, MatchOption};
-ghost use Rattle.ante_wtree.specs.Expressions.{put, put_shape, expression_of};
+ghost use Rattle.ante_wtree.specs.Expressions.{cons, cons_shape, expression_of};
 ghost use Rattle.ante_wmeaning.specs.Environment.{Environment};
 ghost use Rattle.ante_wmeaning.specs.Configurations.{Program, Branch};
 ghost use Rattle.ante_wrun.specs.ThreadStates.{state_of, under, goes, Reaches, Nested};
@@ -146,8 +146,8 @@ pub(crate) fn begin_body<'a, H: Host>(
     shape: Shape<'a>,
     rest: &'a [Instr],
 ) -> Option<&'a [Instr]>
-    requires { HasRule H.meaning (put_shape shape (expression_of rest.now)) values.old frames.old }
-    ensures leads { Within H.meaning (put_shape shape.entry (expression_of rest.entry.now)) values.old frames.old result values.new frames.new }
+    requires { HasRule H.meaning (cons_shape shape (expression_of rest.now)) values.old frames.old }
+    ensures leads { Within H.meaning (cons_shape shape.entry (expression_of rest.entry.now)) values.old frames.old result values.new frames.new }
     ensures undone { result ≡ None → (values.new ≡ values.old) × (frames.new ≡ frames.old) }
     ensures below { values.new.below ≡ values.old.below }
     ensures nested { (below : ℕ) → Nested below frames.old → Nested below frames.new }
@@ -197,8 +197,8 @@ fn branch_within<'a, H: Host>(
     shape: Shape<'a>,
     rest: &'a [Instr],
 ) -> Option<&'a [Instr]>
-    requires { HasRule H.meaning (put_shape shape (expression_of rest.now)) values.old frames.old }
-    ensures leads { Within H.meaning (put_shape shape.entry (expression_of rest.entry.now)) values.old frames.old result values.new frames.new }
+    requires { HasRule H.meaning (cons_shape shape (expression_of rest.now)) values.old frames.old }
+    ensures leads { Within H.meaning (cons_shape shape.entry (expression_of rest.entry.now)) values.old frames.old result values.new frames.new }
     ensures undone { result ≡ None → (values.new ≡ values.old) × (frames.new ≡ frames.old) }
     ensures below { values.new.below ≡ values.old.below }
     ensures nested { (below : ℕ) → Nested below frames.old → Nested below frames.new }
@@ -244,8 +244,8 @@ pub(crate) fn control_within<'a, H: Host>(
     instr: &'a Instr,
     rest: &'a [Instr],
 ) -> Option<&'a [Instr]>
-    requires { HasRule H.meaning (put instr.now (expression_of rest.now)) values.old frames.old }
-    ensures leads { Within H.meaning (put instr.entry.now (expression_of rest.entry.now)) values.old frames.old result values.new frames.new }
+    requires { HasRule H.meaning (cons instr.now (expression_of rest.now)) values.old frames.old }
+    ensures leads { Within H.meaning (cons instr.entry.now (expression_of rest.entry.now)) values.old frames.old result values.new frames.new }
     ensures undone { result ≡ None → (values.new ≡ values.old) × (frames.new ≡ frames.old) }
     ensures below { values.new.below ≡ values.old.below }
     ensures nested { (below : ℕ) → Nested below frames.old → Nested below frames.new }

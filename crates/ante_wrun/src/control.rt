@@ -1,6 +1,6 @@
 //! What one instruction does to a thread (section 4.4.5).
 ghost use Rattle.std.specs.Prelude.{◌≡◌, ℕ, ◌<◌, ◌≤◌, ◌&&◌, None, Some, length, IfOk, slice_get};
-ghost use Rattle.ante_wtree.specs.Expressions.{put, put_shape, expression_of};
+ghost use Rattle.ante_wtree.specs.Expressions.{cons, cons_shape, expression_of};
 ghost use Rattle.ante_wmeaning.specs.PlainInstructions.{low, top, popped};
 ghost use Rattle.ante_wmeaning.specs.Environment.{Environment};
 ghost use Rattle.ante_wmeaning.specs.Configurations.{Program, on_stack, stack_of};
@@ -250,12 +250,12 @@ fn begin<'a, H: Host>(
     shape: Shape<'a>,
 ) -> Result<Next<'a>, AllocError>
     requires sound { (program : Program) × (w : H) × (left : ℕ) × (last : ℕ) × (environment : Environment) ×
-        NotStuck (whole H.meaning program thread.old (acts program (call H.meaning program thread.old.free) (put_shape shape (expression_of thread.old.code.now)) (state_of thread.old.state w left last environment))) }
+        NotStuck (whole H.meaning program thread.old (acts program (call H.meaning program thread.old.free) (cons_shape shape (expression_of thread.old.code.now)) (state_of thread.old.state w left last environment))) }
     requires nested { IsNested thread.old }
     ensures nested { IfOk result (λ next. IsNested thread.new) }
     ensures leads { IfOk result (λ next. (program : Program) (w : H) (left last : ℕ) (environment : Environment) →
         Leads H.meaning program
-        (whole H.meaning program thread.old (acts program (call H.meaning program thread.old.free) (put_shape shape.entry (expression_of thread.old.code.now)) (state_of thread.old.state w left last environment)))
+        (whole H.meaning program thread.old (acts program (call H.meaning program thread.old.free) (cons_shape shape.entry (expression_of thread.old.code.now)) (state_of thread.old.state w left last environment)))
         next thread.new w left last environment) }
 {
     let values = &mut thread.state.values;
@@ -278,14 +278,14 @@ pub(crate) fn act<'a, H: Host>(
     left: &mut u64,
 ) -> Result<Next<'a>, AllocError>
     requires sound { (w : H) × (last : ℕ) × (environment : Environment) × (let program = program_of functions.now in
-        NotStuck (whole H.meaning program thread.old (acts program (call H.meaning program thread.old.free) (put instr.now (expression_of thread.old.code.now)) (state_of thread.old.state w left.old last environment)))) }
+        NotStuck (whole H.meaning program thread.old (acts program (call H.meaning program thread.old.free) (cons instr.now (expression_of thread.old.code.now)) (state_of thread.old.state w left.old last environment)))) }
     requires nested { IsNested thread.old }
     ensures falls { left.new ≤ left.old }
     ensures nested { IfOk result (λ next. IsNested thread.new) }
     ensures leads { IfOk result (λ next. (w : H) (last : ℕ) (environment : Environment) →
         let program = program_of functions.now in
         Leads H.meaning program
-        (whole H.meaning program thread.old (acts program (call H.meaning program thread.old.free) (put instr.entry.now (expression_of thread.old.code.now)) (state_of thread.old.state w left.old last environment)))
+        (whole H.meaning program thread.old (acts program (call H.meaning program thread.old.free) (cons instr.entry.now (expression_of thread.old.code.now)) (state_of thread.old.state w left.old last environment)))
         next thread.new w left.new last environment) }
 {
     let shape = shape_of(instr);
