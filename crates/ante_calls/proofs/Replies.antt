@@ -1,7 +1,8 @@
 -- Each call replies as its type in the table of imports says, whatever its arguments are.
-use Rattle.std.proofs.Common.{◌≡◌, refl, ℕ, ◌/◌, ◌%◌, ◌^◌, ◌<◌, ◌==◌, Bool, true, false, nat_lt, List, length, map, Option, None, Some, arith, lt-ltb}
+use Rattle.std.proofs.Common.{◌≡◌, refl, ap, sym, subst, ◌∙◌, ℕ, ◌/◌, ◌%◌, ◌^◌, ◌<◌, ◌==◌, Bool, true, false, nat_lt, List, length, map, Option, None, Some, arith, lt-ltb}
 use Rattle.std.proofs.lemmas.Bool.{ltb-true}
-use Rattle.std.specs.Prelude.{◌*◌, ℤ, int_div, int_rem, codes, decimal, replicate, bytes_eq, Result, Ok, Err, if◌then◌else◌}
+use Rattle.std.proofs.lemmas.Option.{slice_get-map}
+use Rattle.std.specs.Prelude.{T, is_none, unwrap_or, option_map, slice_get, ◌*◌, ℤ, int_div, int_rem, codes, decimal, replicate, bytes_eq, Result, Ok, Err, if◌then◌else◌}
 use Rattle.std.specs.Fmt.{signed_decimal}
 use Rattle.std.specs.Int.{w32, w128, cast_unsigned, cast_signed, from_le_bytes, abs_diff}
 use Rattle.sha2.specs.Sha256.{sha256}
@@ -27,7 +28,7 @@ use Rattle.ante_wmem.specs.Linear.{LinearMemory, written}
 use Rattle.ante_wmem.specs.HostCalls.{Reply, Outcome, value, nothing, exit, refused, step_limit}
 use Rattle.ante_wtree.specs.declared.instructions.ValueKind.{ValueKind}
 use Rattle.ante_wtree.specs.declared.instructions.ValueKind.TheVariants.{I32, I64}
-use Rattle.ante_wtree.specs.Intrinsics.{types}
+use Rattle.ante_wtree.specs.Intrinsics.{types, type_at}
 use Rattle.ante_calls.specs.declared.calls.SysCall.{SysCall}
 use Rattle.ante_calls.specs.declared.calls.SysCall.TheVariants as sys
 use Rattle.ante_calls.specs.declared.calls.RowCall.{RowCall}
@@ -47,7 +48,7 @@ use Rattle.ante_calls.specs.IndexCalls.{KeyForm, IndexRows, key64, key128, key25
 use Rattle.ante_calls.specs.Iterators.{live_row}
 use Rattle.ante_calls.specs.Kinds.{primary_kind}
 use Rattle.ante_calls.specs.MemoryCalls.{comparison}
-use Rattle.ante_calls.specs.Numbers.{Indexes, intrinsics, intrinsic}
+use Rattle.ante_calls.specs.Numbers.{Indexes, intrinsics, intrinsic_at, intrinsic}
 use Rattle.ante_calls.specs.PrimaryCalls.{table_arg, find_i64, lowerbound_i64, upperbound_i64, got, row_call}
 use Rattle.ante_calls.specs.Rows.{Answer, then_do, some_or, end, next, previous, store, update, remove}
 use Rattle.ante_calls.specs.RowReplies.{failure_of, answered, iterator_alone, no_answer, iterator_and_primary}
@@ -417,3 +418,17 @@ intrinsic_typed indexes (group.Row c) s args m left = mapped_typed (row_result c
 intrinsic_typed indexes (group.Index64 c) s args m left = mapped_typed (index_result c) (with_index64 s) _ (index_typed key64 indexes.index64 c s.run (index64_of s) args m left)
 intrinsic_typed indexes (group.Index128 c) s args m left = mapped_typed (index_result c) (with_index128 s) _ (index_typed key128 indexes.index128 c s.run (index128_of s) args m left)
 intrinsic_typed indexes (group.Index256 c) s args m left = mapped_typed (index_result c) (with_index256 s) _ (index_typed key256 indexes.index256 c s.run (index256_of s) args m left)
+
+-- ---- all calls by their numbers
+
+of_found : (indexes : Indexes) (found : Option (List ℕ × Intrinsic)) (r : Option ValueKind) (s : Seen) (args : List ℕ) (m : LinearMemory) (left : ℕ) →
+    option_map (λ c. result_of c.1) found ≡ Some r → IsReplyOf r (intrinsic indexes (option_map (λ c. c.1) found) s args m left).reply
+of_found indexes None r s args m left e = absurd (subst (λ o. T (is_none o)) e tt)
+of_found indexes (Some c) r s args m left e =
+    subst (λ x. IsReplyOf x (intrinsic indexes (Some c.1) s args m left).reply) (ap (λ o. unwrap_or o (result_of c.1)) e) (intrinsic_typed indexes c.1 s args m left)
+
+pub typed_by_number : (indexes : Indexes) (number : ℕ) (params : List ValueKind) (r : Option ValueKind) (s : Seen) (args : List ℕ) (m : LinearMemory) (left : ℕ) →
+    type_at number ≡ Some (params, r) → IsReplyOf r (intrinsic indexes (intrinsic_at number) s args m left).reply
+typed_by_number indexes number params r s args m left e =
+    of_found indexes (slice_get intrinsics number) r s args m left
+    (sym (slice_get-map (λ c. result_of c.1) intrinsics number) ∙ ap (λ l. slice_get l number) results-listed ∙ slice_get-map (λ t. t.1) types number ∙ ap (option_map (λ t. t.1)) e)

@@ -2,3 +2,4 @@ mod Weights
 mod Natives
 mod Causes
 mod Checks
+pub mod Replies
