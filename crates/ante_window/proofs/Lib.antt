@@ -1,3 +1,4 @@
 mod Looking
 mod Running
-mod Counting
+mod Joining
+mod Halving

@@ -28,7 +28,7 @@ module _ {J R : Type 0} (answer : J → R) (jobs : List J) where
   outcome_more reply moments more (Back at) h = has_left at moments more h
   outcome_more reply moments more OutOfMemory h = tt
 
-  all_more : (moments more : List ℕ) (log : List (Entry R)) → AllByRecursion (IsGiven answer jobs moments) log → AllByRecursion (IsGiven answer jobs (moments ++ more)) log
+  pub all_more : (moments more : List ℕ) (log : List (Entry R)) → AllByRecursion (IsGiven answer jobs moments) log → AllByRecursion (IsGiven answer jobs (moments ++ more)) log
   all_more moments more [] h = tt
   all_more moments more (e ∷ es) h =
       ((h.0.0, (λ d. outcome_more (answer (slice_index_or jobs e.job d)) moments more e.outcome (h.0.1 d))), all_more moments more es h.1)

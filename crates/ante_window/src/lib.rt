@@ -4,7 +4,9 @@
 mod outcome;
 mod pool_stop;
 mod reader;
+mod readers;
 
 pub use outcome::{Entry, Outcome};
 pub use pool_stop::PoolStop;
 pub use reader::{Brought, Window, read_alone};
+pub use readers::{Report, read_all, run_log};

@@ -1,9 +1,10 @@
 ghost use Rattle.std.specs.Prelude.{◌≡◌, ℕ, ◌+◌, ◌^◌, ◌<◌, true, false, [], length, MatchBool, IfOk, IfSome, None};
 ghost use Rattle.ante_pool.specs.Pools.{IsSeatOf};
-ghost use Rattle.ante_pool.specs.Seats.{IsOnce};
+ghost use Rattle.ante_pool.specs.Seats.{whole_share};
+ghost use Rattle.std.specs.Thread.{IsSync};
 ghost use Rattle.ante_window.specs.Watching.{Watches, Claims, IsOver};
 ghost use Rattle.ante_window.specs.Stops.{IsSameStop};
-ghost use Rattle.ante_window.specs.Reads.{IsAnswer, IsOutcome, IsRun, IsFresh, IsUnderWay, Goes};
+ghost use Rattle.ante_window.specs.Reads.{IsAnswer, IsOutcome, IsRun, IsFresh, IsBrought, IsReport, Goes};
 
 use crate::outcome::{Entry, Outcome};
 use crate::pool_stop::PoolStop;
@@ -51,7 +52,7 @@ fn claim_one<C: Clock>(stop: &mut PoolStop<'_, C>) -> Option<u32>
     requires going { stop.old.seat.known.ended ≡ false }
     ensures same { IsSameStop stop.old stop.new }
     ensures claimed { Claims (C.told stop.old.clock.now) stop.old.deadline stop.old.seat.known result stop.new.seat.known }
-    ensures job { IfSome result (λ n. (n < stop.old.pool.now.jobs) × IsOnce stop.new.seat.known.numbers) }
+    ensures job { IfSome result (λ n. n < stop.old.pool.now.jobs) }
 {
     if stop.look().is_some() {
         return None;
@@ -89,7 +90,7 @@ fn read_next<S: ReadState, C: Clock, G: Gate>(
     requires pool { stop.old.pool.now ≡ window.now.pool.now }
     requires clock { (stop.old.clock.now ≡ window.now.clock.now) × (stop.old.deadline ≡ window.now.deadline) }
     requires run { IsRun (S.answer window.now.state.now) window.now.jobs.now (C.told window.now.clock.now) window.now.deadline stop.old.seat.known log.old.items }
-    requires going { IsUnderWay stop.old.seat.known }
+    requires going { stop.old.seat.known.ended ≡ false }
     ensures same { IsSameStop stop.old stop.new }
     ensures run { IfOk result (λ more. IsRun (S.answer window.now.state.now) window.now.jobs.now (C.told window.now.clock.now) window.now.deadline stop.new.seat.known log.new.items) }
     ensures goes { IfOk result (λ more. Goes stop.old.seat.known more stop.new.seat.known) }

@@ -13,7 +13,7 @@ returns-clause-run g c =
     let same = c.claim_one.ensures.same in
     let pool = ap (λ (p : PoolView). p.jobs) c.requires.pool in
     let fits = c.args.window.now.fits in
-    let below = c.in-Some.ensures.job.0 in
+    let below = c.in-Some.ensures.job in
     let lt : c.in-Some.job < length c.args.window.now.jobs.now = omega arith in
     rw c.in_ok-push.ensures.items (run_next _ _ _ _ _ _ _ _ _ _ c.args.reader c.requires.run claimed.0
     (early_at g.C.Clock.told _ _ c.requires.clock.0 _ _ c.requires.clock.1 claimed.1.0 claimed.1.1 claimed.1.2)
