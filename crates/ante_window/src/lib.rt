@@ -5,6 +5,8 @@ mod outcome;
 mod pool_stop;
 mod reader;
 mod readers;
+#[cfg(test)]
+mod tests;
 
 pub use outcome::{Entry, Outcome};
 pub use pool_stop::PoolStop;
