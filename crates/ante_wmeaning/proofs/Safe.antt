@@ -15,7 +15,8 @@ use Rattle.ante_wmeaning.specs.Execution.{supplied, and_then}
 use Rattle.ante_wmeaning.specs.RunEnds.{NotStuck}
 use Rattle.ante_wmeaning.specs.HostConditions.{MayCall, MayBelow, IsHosts}
 use Rattle.ante_wmeaning.specs.Instantiation.{constant, segments_fit, program_in, apply_in}
-use Rattle.ante_wmeaning.specs.Invocation.{most_frames, with_arguments, outset_of, where_fit, called_with, start_runs, apply_runs, both_run, run_of}
+use Rattle.ante_wtree.specs.Limits.{most_frames}
+use Rattle.ante_wmeaning.specs.Invocation.{with_arguments, outset_of, where_fit, called_with, start_runs, apply_runs, both_run, run_of}
 use Rattle.ante_wmeaning.specs.HostConditions.{AnswersTyped}
 use Rattle.ante_wmeaning.specs.TypedPrograms.{IsTyped}
 use Rattle.ante_wmeaning.proofs.Programs.{typed_unless}

@@ -12,6 +12,7 @@ use Rattle.ante_wmeaning.specs.declared.ends.TrapKind.{TrapKind}
 use Rattle.ante_wmeaning.specs.declared.ends.TrapKind.TheVariants as trap
 use Rattle.ante_wmeaning.specs.declared.ends.RunEnd.TheVariants as end
 use Rattle.ante_wmeaning.specs.PlainInstructions.{Effect, Next, Traps, NoRule, effect, low}
+use Rattle.ante_wtree.specs.Limits.{round_steps}
 use Rattle.ante_wmeaning.specs.Environment.{after_look, after_item, after_call}
 use Rattle.ante_wmeaning.specs.Configurations.{FunctionInstance, Own, Given, Missing, Program, State, Outcome, Normal, Branch, Returned, Ended, Lacks, InHost, Stuck, with_values, stack_of, on_stack}
 use Rattle.ante_wmeaning.specs.ValueTypes.{arity, result_of, same_kinds, masked, gives_none}
@@ -43,9 +44,9 @@ module _ {W : Type 0} where
 
 -- ---- steps and looks, in one place before every instruction
 
--- a look is due each time that the steps left, in rounds of 1,024, have come into a lower round
+-- a look is due each time that the steps left, in rounds of `round_steps`, have come into a lower round
 abbrev pub round : ℕ → ℕ
-round left = (left + 1023) / 1024
+round left = (left + (round_steps - 1)) / round_steps
 
 abbrev pub due : (left last : ℕ) → Bool
 due left last = nat_lt (round left) (round last)

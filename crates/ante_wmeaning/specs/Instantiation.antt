@@ -5,6 +5,7 @@ use Rattle.std.specs.List.{list_all, zip}
 use Rattle.std.specs.Str.{bytes_eq}
 use Rattle.std.specs.Option.{option_map}
 use Rattle.ante_wmem.specs.Linear.{LinearMemory, written}
+use Rattle.ante_wmem.specs.Limits.{page_size, most_memory_pages}
 use Rattle.ante_wtree.specs.declared.modules.FuncType.{FuncType}
 use Rattle.ante_wtree.specs.declared.modules.ImportKind.{ImportKind}
 use Rattle.ante_wtree.specs.declared.modules.ImportKind.TheVariants as import
@@ -70,15 +71,15 @@ abbrev pub empty_table : List Limits → List (Option ℕ)
 empty_table [] = []
 empty_table (l ∷ ls) = replicate l.least None
 
--- the most pages that a memory may grow to: 528, or fewer where the module says so
+-- the most pages that a memory may grow to: those of the profile, or fewer where the module says so
 abbrev pub most_pages : Option ℕ → ℕ
-most_pages None = 528
-most_pages (Some most) = min most 528
+most_pages None = most_memory_pages
+most_pages (Some most) = min most most_memory_pages
 
 -- A memory of zeros. A module without one has a memory of no pages, which can't grow.
 abbrev pub empty_memory : List Limits → LinearMemory
 empty_memory [] = record { bytes = []; most = 0 }
-empty_memory (l ∷ ls) = record { bytes = replicate (65536 * l.least) 0; most = most_pages l.most }
+empty_memory (l ∷ ls) = record { bytes = replicate (page_size * l.least) 0; most = most_pages l.most }
 
 -- ---- segments
 

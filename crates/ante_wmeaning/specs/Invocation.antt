@@ -1,6 +1,7 @@
 -- A whole run of a module, from outside: sections 4.5.4 and 4.5.5 of WebAssembly Core 1.0. Its start function is called, and then `apply`.
 use Rattle.std.specs.Prelude.{ℕ, Bool, true, false, List, [], reverse, Option, None, Some}
 use Rattle.ante_wmem.specs.HostCalls.{HostMeaning}
+use Rattle.ante_wtree.specs.Limits.{most_frames}
 use Rattle.ante_wtree.specs.Trees.{Tree}
 use Rattle.ante_wmeaning.specs.declared.ends.TrapKind.TheVariants as trap
 use Rattle.ante_wmeaning.specs.declared.ends.RunEnd.TheVariants as end
@@ -8,10 +9,6 @@ use Rattle.ante_wmeaning.specs.Environment.{Environment}
 use Rattle.ante_wmeaning.specs.Configurations.{Program, State, Outcome, Normal, Ended, Stuck}
 use Rattle.ante_wmeaning.specs.Execution.{supplied, and_then, invoked}
 use Rattle.ante_wmeaning.specs.Instantiation.{segments_fit, program_in, first_values, apply_in}
-
--- how many frames may be open at once
-unfoldable pub most_frames : ℕ
-most_frames = 250
 
 module _ {W : Type 0} where
   -- the state in which a function is called from outside

@@ -22,7 +22,8 @@ use Rattle.ante_wmeaning.specs.Execution.{supplied, and_then, invoked}
 use Rattle.ante_wrun.specs.ThreadStates.{state_of}
 use Rattle.ante_wmeaning.specs.Environment.{Event, Looked, Supplied, CallSupplied, looks_of, Begins, past, ByEvents, Wanting}
 use Rattle.ante_wmeaning.specs.RunEnds.{Ends, Lacking}
-use Rattle.ante_wmeaning.specs.Invocation.{most_frames, called_with, outset_of, where_fit, both_run, run_of}
+use Rattle.ante_wtree.specs.Limits.{most_frames}
+use Rattle.ante_wmeaning.specs.Invocation.{called_with, outset_of, where_fit, both_run, run_of}
 use Rattle.ante_wmeaning.specs.RunEnds.{RunAnswers}
 use Rattle.ante_wmeaning.specs.Instantiation.{segments_fit, program_in, first_values}
 

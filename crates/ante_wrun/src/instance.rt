@@ -2,6 +2,7 @@
 ghost use Rattle.std.specs.Prelude.{◌≡◌, ◌+◌, ◌<◌, ◌≤◌, ◌&&◌, [], ◌∷◌, ◌++◌, length, map, nat_le, slice_get, fold, codes, IfOk, OnOk, true, Any};
 ghost use Rattle.std.specs.List.{AllByRecursion};
 ghost use Rattle.std.specs.Str.{bytes_eq};
+ghost use Rattle.ante_wmem.specs.Limits.{most_memory_pages};
 ghost use Rattle.ante_wtree.specs.Trees.{body_of, tree_of};
 ghost use Rattle.ante_wvalid.specs.Modules.{IsValid, OutOfBounds};
 ghost use Rattle.ante_wrun.specs.ThreadStates.{values_of};
@@ -14,6 +15,7 @@ use crate::control::{Function, Functions};
 use crate::data::{Data, low};
 use crate::values::ValueStack;
 use ante_wmem::Memory;
+use ante_wmem::limits::{MOST_MEMORY_PAGES, PAGE_SIZE};
 use ante_wtree::{
     Code, Element, Export, FuncType, Global, Import, ImportKind, Init, Limits, Module, Segment,
     host_number,
@@ -26,9 +28,6 @@ pub(crate) struct Instance<'a> {
     pub(crate) functions: Functions<'a>,
     pub(crate) data: Data,
 }
-
-/// The most pages that a memory has.
-const PAGES: u32 = 528;
 
 fn host_place(name: &[u8]) -> Option<u32>
     ensures { result ≡ host_place name.now }
@@ -162,13 +161,13 @@ fn most_pages(most: Option<u32>) -> u32
     ensures { result ≡ most_pages most }
 {
     match most {
-        Some(most) if most < PAGES => most,
-        Some(_) | None => PAGES,
+        Some(most) if most < MOST_MEMORY_PAGES => most,
+        Some(_) | None => MOST_MEMORY_PAGES,
     }
 }
 
 fn empty_memory(alloc: Heap, limits: &[Limits]) -> Result<Memory, AllocError>
-    requires { Any (OutOfBounds 528) limits.now → ⊥ }
+    requires { Any (OutOfBounds most_memory_pages) limits.now → ⊥ }
     ensures { IfOk result (λ memory. memory ≡ empty_memory limits.now) }
 {
     match limits.first() {
@@ -308,7 +307,7 @@ pub(crate) fn instantiate(alloc: Heap, module: &Module) -> Result<Option<Instanc
     let mut functions = functions_of(alloc, module)?;
     let mut data = data_of(alloc, module)?;
     let places = functions.table.as_slice().len();
-    let count = 65_536 * data.memory.pages() as usize;
+    let count = PAGE_SIZE * data.memory.pages() as usize;
     if !segments_fit(module, places, count) {
         return Ok(None);
     }

@@ -10,7 +10,8 @@ ghost use Rattle.ante_wmeaning.specs.RunEnds.{Sound};
 ghost use Rattle.ante_wmeaning.specs.HostConditions.{MayCall, MayBelow, IsHosts};
 ghost use Rattle.ante_wmeaning.specs.Instantiation.{program_in, apply_in};
 ghost use Rattle.ante_wmeaning.specs.Environment.{CountsLooks, undisturbed, Passes, AskedLast};
-ghost use Rattle.ante_wmeaning.specs.Invocation.{most_frames, called_with, start_runs, apply_runs, both_run, run_of};
+ghost use Rattle.ante_wtree.specs.Limits.{most_frames};
+ghost use Rattle.ante_wmeaning.specs.Invocation.{called_with, start_runs, apply_runs, both_run, run_of};
 ghost use Rattle.ante_wmeaning.specs.RunEnds.{RunAnswers, EndsWith, Uncut, Comes};
 ghost use Rattle.ante_wmeaning.specs.HostConditions.{AnswersTyped};
 ghost use Rattle.ante_wrun.specs.InstanceAndCalls.{OnReturn, CallLeads};
@@ -26,6 +27,7 @@ use ante_stack::Stack;
 use ante_wmeaning::{RunEnd, TrapKind};
 use ante_wmem::Host;
 use ante_wtree::Module;
+use ante_wtree::limits::most_frames;
 use ante_wvalid::ValidModule;
 use std::alloc::{AllocError, Global};
 
@@ -35,13 +37,6 @@ pub(crate) enum Called<R> {
     /// The function returned, and left this.
     Returned(Data),
     Ended(RunEnd<R>),
-}
-
-#[tactic(auto, unfolding(ante_wmeaning::specs::Invocation::most_frames))]
-fn most_frames() -> u32
-    ensures { result ≡ most_frames }
-{
-    250
 }
 
 /// These values as operands, the last one topmost.

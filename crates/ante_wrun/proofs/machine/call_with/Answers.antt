@@ -8,7 +8,8 @@ use Rattle.ante_wrun.specs.Control.{program_of}
 use Rattle.ante_wmeaning.specs.Environment.{past, Wanting}
 use Rattle.ante_wmeaning.specs.RunEnds.{Ends, Lacking, NotStuck}
 use Rattle.ante_wrun.specs.InstructionCycle.{RunLeads}
-use Rattle.ante_wmeaning.specs.Invocation.{most_frames, with_arguments, called_with}
+use Rattle.ante_wtree.specs.Limits.{most_frames}
+use Rattle.ante_wmeaning.specs.Invocation.{with_arguments, called_with}
 use Rattle.ante_wrun.proofs.Whole.{wanted_first, call_lacks, called_as, recalled}
 use Rattle.ante_wrun.proofs.machine.call_with.Goals as goal
 
