@@ -1,5 +1,6 @@
 mod Weights
 mod Natives
+mod Founded
 mod Causes
 mod Checks
 pub mod Replies

@@ -30,3 +30,18 @@ pub enum ApplyEnd {
     /// A look asked it to stop, and told this moment.
     Cut { at: u64 },
 }
+
+/// Why a genesis isn't one: the first of these that holds.
+#[derive(Clone, Copy, Debug, PartialEq, Eq)]
+pub enum GenesisFault {
+    OutOfMemory,
+    Version { found: u32 },
+    /// None or more than 21 producers, two the same, or one without a name.
+    Producers,
+    /// The accounts don't rise by their numbers.
+    AccountOrder,
+    /// The system's account isn't there.
+    NoSystem,
+    BadAuthority { account: Name },
+    BadCode { account: Name },
+}

@@ -6,5 +6,5 @@
 mod ends;
 mod kinds;
 
-pub use ends::{ApplyEnd, AuthFault, NativeFault};
+pub use ends::{ApplyEnd, AuthFault, GenesisFault, NativeFault};
 pub use kinds::{NativeAction, Weighed};

@@ -1,6 +1,7 @@
 -- setcode(account, vmtype, vmversion, code): the account's code, which is taken away where there is none. One step for each whole 64 bytes of it.
-use Rattle.std.specs.Prelude.{ℕ, ◌/◌, ◌==◌, Bool, not, ◌&&◌, List, [], ◌∷◌, length, codes, Option, None, Some, Result, Ok, Err, if◌then◌else◌}
+use Rattle.std.specs.Prelude.{T, IfSome, ◌||◌, ℕ, ◌/◌, ◌==◌, Bool, not, ◌&&◌, List, [], ◌∷◌, length, codes, Option, None, Some, Result, Ok, Err, if◌then◌else◌}
 use Rattle.ante_pack.specs.declared.fault.PackFault.{PackFault}
+use Rattle.ante_pack.specs.declared.names.Name.{Name}
 use Rattle.ante_state.specs.declared.objects.AccountRow.{AccountRow}
 use Rattle.ante_types.specs.declared.failure.Failure.{Failure}
 use Rattle.ante_types.specs.declared.failure.Failure.TheVariants as failure
@@ -28,3 +29,7 @@ coded d (Some row) = change.SetAccount d.account (record { payer = row.payer; pr
 
 abbrev pub setcode_changes : SetCode → World → List Change
 setcode_changes d w = coded d (account_at d.account w)
+
+-- each code of a state is empty, or decodes and is valid
+abbrev pub CodesAreAccepted : (accepts : List ℕ → Bool) → World → Type 0
+CodesAreAccepted accepts w = (name : Name) → IfSome (account_at name w) (λ row. T (length row.code == 0 || accepts row.code))
