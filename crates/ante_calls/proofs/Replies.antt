@@ -29,6 +29,8 @@ use Rattle.ante_wmem.specs.HostCalls.{Reply, Outcome, value, nothing, exit, refu
 use Rattle.ante_wtree.specs.declared.instructions.ValueKind.{ValueKind}
 use Rattle.ante_wtree.specs.declared.instructions.ValueKind.TheVariants.{I32, I64}
 use Rattle.ante_wtree.specs.Intrinsics.{types, type_at}
+use Rattle.ante_wtree.specs.Types.{fits}
+use Rattle.ante_wtree.specs.Replies.{IsReplyOf}
 use Rattle.ante_calls.specs.declared.calls.SysCall.{SysCall}
 use Rattle.ante_calls.specs.declared.calls.SysCall.TheVariants as sys
 use Rattle.ante_calls.specs.declared.calls.RowCall.{RowCall}
@@ -57,20 +59,6 @@ use Rattle.ante_calls.specs.Views.{Seen, SysView, RowView, sys_of, with_sys, row
 use Rattle.ante_calls.specs.WideIntegers.{wide_arg, signed, unsigned, up, down, down_signed, writes_wide, dividing, shifting}
 
 -- ---- replies of a type
-
-abbrev pub fits : ValueKind → ℕ → Bool
-fits I32 n = nat_lt n (2 ^ 32)
-fits I64 n = nat_lt n (2 ^ 64)
-
--- a reply that a function of this result may give
-abbrev pub IsReplyOf : {W R : Type 0} → Option ValueKind → Reply W R → Type 0
-IsReplyOf None (value n w m) = ⊥
-IsReplyOf (Some kind) (value n w m) = fits kind n ≡ true
-IsReplyOf None (nothing w m) = Unit {0}
-IsReplyOf (Some kind) (nothing w m) = ⊥
-IsReplyOf result (exit w m) = Unit {0}
-IsReplyOf result (refused r) = Unit {0}
-IsReplyOf result step_limit = Unit {0}
 
 abbrev i : Option ValueKind
 i = Some I32

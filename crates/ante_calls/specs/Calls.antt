@@ -62,13 +62,13 @@ shorter n bytes = if n == 0 then (length bytes % 2 ^ 32, []) else (min n (length
 -- ---- failures that name something
 
 abbrev pub write_refused : (name : List ℕ) → Failure
-write_refused name = failure.WriteRefused (record { 0 = name })
+write_refused name = failure.WriteRefused name
 
 abbrev pub unsupported : (field : List ℕ) → Failure
-unsupported field = failure.Unsupported (record { 0 = field })
+unsupported field = failure.Unsupported field
 
 abbrev pub trapped : (kind : List ℕ) → Failure
-trapped kind = failure.Trap (record { 0 = kind })
+trapped kind = failure.Trap kind
 
 -- ---- the order of a call
 

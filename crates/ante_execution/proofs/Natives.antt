@@ -131,7 +131,7 @@ running m levels bytes = record {
 abbrev pub no_codes : List ℕ → Bool
 no_codes code = false
 
-reading : native_run no_codes (running mode.Reading [] []) world native.SetAbi ≡ Err (failure.WriteRefused (record { 0 = codes "setabi" }))
+reading : native_run no_codes (running mode.Reading [] []) world native.SetAbi ≡ Err (failure.WriteRefused (codes "setabi"))
 unfolding native_run name_number number_of name_text
 reading = refl
 

@@ -7,7 +7,8 @@ use Rattle.ante_wtree.specs.declared.instructions.ValueKind.{ValueKind}
 use Rattle.ante_wtree.specs.Intrinsics.{type_at}
 use Rattle.ante_calls.specs.Numbers.{Indexes, intrinsic_at, intrinsic}
 use Rattle.ante_calls.specs.Views.{Seen}
-use Rattle.ante_calls.proofs.Replies.{IsReplyOf, typed_by_number}
+use Rattle.ante_wtree.specs.Replies.{IsReplyOf}
+use Rattle.ante_calls.proofs.Replies.{typed_by_number}
 use Rattle.ante_execution.specs.Hosts.{sent_refusal, unless, sent_reply, is_send_inline, checked, call}
 
 unless_typed : (f : Option Failure) (s : Seen) (m : LinearMemory) → IsReplyOf None (unless f (nothing s m))
