@@ -2,7 +2,6 @@
 ghost use Rattle.std.specs.Prelude.{◌≡◌, ℕ, List, ◌%◌, ◌^◌, length, IsTrue};
 ghost use Rattle.std.specs.List.{flat_map};
 ghost use Rattle.std.specs.Option.{option_map};
-ghost use Rattle.std.specs.Cmp.{IsTotalOrder};
 ghost use Rattle.std.specs.FinMap.Entries.{is_sorted};
 ghost use Rattle.ante_sessions.specs.Walk.{first_entry, past};
 ghost use Rattle.ante_digest.specs.Feeds.{Feeds, piece_of};
@@ -10,6 +9,7 @@ ghost use Rattle.ante_digest.specs.Entries.{counted};
 ghost use Rattle.ante_pack.specs.Forms.{varuint};
 
 use crate::feeding::feed_varuint;
+use ante_state::total_order;
 use sha2::Sha256;
 
 /// A kind of entries that the digest lists.
@@ -33,11 +33,6 @@ pub(crate) trait Listed {
         ensures fed { Feeds hasher.old hasher.new (piece_of packed (first_entry (past Self.Key.cmp after.now (entries self.now)))) }
         ensures ordered { IsTrue (is_sorted Self.Key.cmp (entries self.now)) };
 }
-
-// Every order that keys have is total.
-fn total_order<K: Ord>()
-    ensures { IsTotalOrder K.cmp }
-{}
 
 /// How many entries there are, or the remainder where it is more than fits.
 fn count_of<L: Listed>(map: &L) -> u32

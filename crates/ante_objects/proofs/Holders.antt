@@ -5,15 +5,10 @@ use Rattle.std.specs.Cmp.{ranks}
 use Rattle.std.proofs.lemmas.Bool.Decides.{nat_tests}
 use Rattle.ante_pack.specs.declared.names.Name.{Name}
 use Rattle.ante_pack.specs.declared.authority.Level.{Level}
+use Rattle.ante_state.specs.Orders.{level_order, link_order}
 use Rattle.ante_state.specs.declared.objects.LinkKey.{LinkKey}
 use Rattle.ante_state.specs.declared.objects.PermissionRow.{PermissionRow}
 use Rattle.ante_objects.specs.Objects.{is_child, asks_for}
-
-abbrev pub by_level : Level → Level → Ordering
-by_level a b = ordering_then (nat_cmp a.actor.0 b.actor.0) (nat_cmp a.permission.0 b.permission.0)
-
-abbrev pub by_link : LinkKey → LinkKey → Ordering
-by_link a b = ordering_then (nat_cmp a.account.0 b.account.0) (ordering_then (nat_cmp a.code.0 b.code.0) (nat_cmp a.action.0 b.action.0))
 
 not_less : {X : Type 0} → Equal ≡ Less → X
 not_less h = absurd (true≢false (sym (ap is_lt h)))
@@ -58,10 +53,10 @@ above_differs a b t h = ap (λ s. s && t) (differs a b h)
     differs a b h = grind (arith, nat_tests)
 
 module _ (level : Level) where
-  pub no_child_before : (e : Level × PermissionRow) → by_level e.0 (record { actor = level.actor; permission = record { 0 = 0 } }) ≡ Less → is_child level e ≡ false
+  pub no_child_before : (e : Level × PermissionRow) → level_order e.0 (record { actor = level.actor; permission = record { 0 = 0 } }) ≡ Less → is_child level e ≡ false
   no_child_before e h = below_differs e.0.actor.0 level.actor.0 (e.1.parent.0 == level.permission.0) (leads_alone e.0.actor.0 level.actor.0 (nat_cmp e.0.permission.0 0) (none_below_zero e.0.permission.0) h)
 
-  pub no_child_past : (at : Level) → level.actor.0 < at.actor.0 → (e : Level × PermissionRow) → by_level at e.0 ≡ Less → is_child level e ≡ false
+  pub no_child_past : (at : Level) → level.actor.0 < at.actor.0 → (e : Level × PermissionRow) → level_order at e.0 ≡ Less → is_child level e ≡ false
   no_child_past at above e h =
       above_differs e.0.actor.0 level.actor.0 (e.1.parent.0 == level.permission.0)
       (let later = leads at.actor.0 e.0.actor.0 (nat_cmp at.permission.0 e.0.permission.0) h in omega (arith, later, above))
@@ -69,12 +64,12 @@ module _ (level : Level) where
   pub no_child_there : (e : Level × PermissionRow) → level.actor.0 < e.0.actor.0 → is_child level e ≡ false
   no_child_there e above = above_differs e.0.actor.0 level.actor.0 (e.1.parent.0 == level.permission.0) above
 
-  pub no_link_before : (e : LinkKey × Name) → by_link e.0 (record { account = level.actor; code = record { 0 = 0 }; action = record { 0 = 0 } }) ≡ Less → asks_for level e ≡ false
+  pub no_link_before : (e : LinkKey × Name) → link_order e.0 (record { account = level.actor; code = record { 0 = 0 }; action = record { 0 = 0 } }) ≡ Less → asks_for level e ≡ false
   no_link_before e h =
       below_differs e.0.account.0 level.actor.0 (e.1.0 == level.permission.0)
       (leads_alone e.0.account.0 level.actor.0 (ordering_then (nat_cmp e.0.code.0 0) (nat_cmp e.0.action.0 0)) (none_below_zeros e.0.code.0 e.0.action.0) h)
 
-  pub no_link_past : (at : LinkKey) → level.actor.0 < at.account.0 → (e : LinkKey × Name) → by_link at e.0 ≡ Less → asks_for level e ≡ false
+  pub no_link_past : (at : LinkKey) → level.actor.0 < at.account.0 → (e : LinkKey × Name) → link_order at e.0 ≡ Less → asks_for level e ≡ false
   no_link_past at above e h =
       above_differs e.0.account.0 level.actor.0 (e.1.0 == level.permission.0)
       (let later = leads at.account.0 e.0.account.0 (ordering_then (nat_cmp at.code.0 e.0.code.0) (nat_cmp at.action.0 e.0.action.0)) h in omega (arith, later, above))

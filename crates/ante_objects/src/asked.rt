@@ -2,19 +2,18 @@
 ghost use Rattle.std.specs.Prelude.{◌≡◌, nat_lt};
 ghost use Rattle.ante_objects.specs.Objects.{is_child, has_child, asks_for, has_link_to};
 
-use crate::laws::{link_order, permission_order};
 use crate::lookups::keyed;
 use crate::objects::Objects;
 use ante_pack::{Level, Name};
 use ante_sessions::next_entry;
-use ante_state::{LinkKey, PermissionRow};
+use ante_state::{LinkKey, PermissionRow, total_order};
 
 impl Objects {
     /// Whether a permission of the level's account has the level's permission as its parent.
     pub fn has_child(&self, level: Level) -> bool
         ensures { result ≡ has_child level self.now.top.permissions }
     {
-        permission_order();
+        total_order::<Level>();
         let start = Level {
             actor: level.actor,
             permission: Name(0),
@@ -36,7 +35,7 @@ impl Objects {
     pub fn has_link_to(&self, level: Level) -> bool
         ensures { result ≡ has_link_to level self.now.top.links }
     {
-        link_order();
+        total_order::<LinkKey>();
         let start = LinkKey {
             account: level.actor,
             code: Name(0),

@@ -5,7 +5,6 @@ mod asked;
 mod authorities;
 mod changes;
 mod history;
-mod laws;
 mod lookups;
 mod objects;
 

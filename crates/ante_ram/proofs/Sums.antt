@@ -1,5 +1,5 @@
 -- The sum of all usage after a change of one account's share, and the rule that it keeps.
-use Rattle.std.proofs.Common.{◌≡◌, ℕ, ◌+◌, ◌-◌, ◌≤◌, ◌^◌, ℤ, true, false, cond, not, T, List, [], ◌∷◌, length, slice_index_or, Result, Ok, Err, OnOk, OnErr, Option, Some, None, refl, sym, ap, subst, ◌∙◌, arith, Ordering, Less, Equal, Greater, is_eq}
+use Rattle.std.proofs.Common.{◌≡◌, ℕ, ◌+◌, ◌-◌, ◌≤◌, ℤ, true, false, cond, not, T, List, [], ◌∷◌, length, slice_index_or, Result, Ok, Err, OnOk, OnErr, Option, Some, None, refl, sym, ap, subst, ◌∙◌, arith, Ordering, Less, Equal, Greater, is_eq}
 use Rattle.std.specs.Ordering.{eq_by_cmp, nat_cmp}
 use Rattle.std.specs.Cmp.{IsTotalOrder}
 use Rattle.std.specs.List.{AllByRecursion}
@@ -16,6 +16,7 @@ use Rattle.ante_sessions.specs.Zipped.{zip_stacks, Alike}
 use Rattle.ante_sessions.specs.Seen.{map_stack, Throughout}
 use Rattle.ante_sessions.proofs.Seen.{kept_top}
 use Rattle.ante_pack.specs.declared.names.Name.{Name}
+use Rattle.ante_state.specs.Billing.{most_usage}
 use Rattle.ante_ram.specs.declared.parts.Share.{Share}
 use Rattle.ante_ram.specs.declared.parts.Rest.{Rest}
 use Rattle.ante_ram.specs.Usage.{used_of, usage_sum, is_free, entry_of, with_share}
@@ -92,7 +93,7 @@ module _ (cmp : Name → Name → Ordering) where
     }
 
     -- and then the account's share
-    pub shared : (rest : Rest) (used : ℕ) (quota : ℤ) (m : List (Name × Share) × List (ℕ × Rest)) → rest.used + used_of (find cmp rest.account m.0) ≡ usage_sum m.0 → rest.used + used ≤ 2 ^ 62 → IsSummed cmp m → IsSummed cmp (with_share cmp rest.account used quota m.0, changed nat_cmp m.1 0 (Some rest))
+    pub shared : (rest : Rest) (used : ℕ) (quota : ℤ) (m : List (Name × Share) × List (ℕ × Rest)) → rest.used + used_of (find cmp rest.account m.0) ≡ usage_sum m.0 → rest.used + used ≤ most_usage → IsSummed cmp m → IsSummed cmp (with_share cmp rest.account used quota m.0, changed nat_cmp m.1 0 (Some rest))
     shared rest used quota m e small is = record {
       sorted = sorted_changed cmp o m.0 rest.account (entry_of used quota) is.sorted;
       total = subst (λ r. r.used + used_of (find cmp r.account (with_share cmp rest.account used quota m.0)) ≡ usage_sum (with_share cmp rest.account used quota m.0)) (sym (rest_found rest m.1))
@@ -102,7 +103,7 @@ module _ (cmp : Name → Name → Ordering) where
     }
 
     -- a writing call first writes the rest down and then the share, or is refused before one of them
-    pub written : {A E : Type 0} (rest : Rest) (used : ℕ) (quota : ℤ) (old s s2 : Stack (List (Name × Share) × List (ℕ × Rest))) (r : Result A E) → s ≡ with_top (old.top.0, changed nat_cmp old.top.1 0 (Some rest)) old → OnOk r (s2 ≡ with_top (with_share cmp rest.account used quota s.top.0, s.top.1) s) → OnErr r (s2 ≡ s) → rest.used + used_of (find cmp rest.account old.top.0) ≡ usage_sum old.top.0 → rest.used + used ≤ 2 ^ 62 → Throughout (IsSummed cmp) old → Throughout (IsSummed cmp) s2
+    pub written : {A E : Type 0} (rest : Rest) (used : ℕ) (quota : ℤ) (old s s2 : Stack (List (Name × Share) × List (ℕ × Rest))) (r : Result A E) → s ≡ with_top (old.top.0, changed nat_cmp old.top.1 0 (Some rest)) old → OnOk r (s2 ≡ with_top (with_share cmp rest.account used quota s.top.0, s.top.1) s) → OnErr r (s2 ≡ s) → rest.used + used_of (find cmp rest.account old.top.0) ≡ usage_sum old.top.0 → rest.used + used ≤ most_usage → Throughout (IsSummed cmp) old → Throughout (IsSummed cmp) s2
     written rest used quota old s s2 (Ok a) e ok err others small is =
         kept_top (IsSummed cmp) (with_share cmp rest.account used quota s.top.0, s.top.1) s s2 ok
         (subst (λ t. IsSummed cmp (with_share cmp rest.account used quota t.0, t.1)) (sym (ap (λ s. s.top) e)) (shared rest used quota old.top others small is.top))

@@ -54,6 +54,16 @@ module _ (cmp : Name → Name → Ordering) where
   abbrev pub with_share : Name → ℕ → ℤ → List (Name × Share) → List (Name × Share)
   with_share account used quota m = changed cmp m account (entry_of used quota)
 
+  -- with another usage, with usage that rose or fell by so much, and with another quota
+  abbrev pub with_used : Name → ℕ → List (Name × Share) → List (Name × Share)
+  with_used account used m = with_share account used (quota_of (find cmp account m)) m
+
+  abbrev pub with_change : Name → ℤ → List (Name × Share) → List (Name × Share)
+  with_change account change m = with_used account (moved change (used_of (find cmp account m))) m
+
+  abbrev pub with_quota : Name → ℤ → List (Name × Share) → List (Name × Share)
+  with_quota account quota m = with_share account (used_of (find cmp account m)) quota m
+
   -- the account uses more than before, and more than its quota
   abbrev pub is_over : List (Name × Share) → Name × ℕ × ℤ → Bool
   is_over before e = nat_lt (used_of (find cmp e.0 before)) e.1 && exceeds e.1 e.2

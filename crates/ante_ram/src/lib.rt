@@ -1,7 +1,6 @@
 //! Who uses how much memory, and how much each may: usage and quotas of accounts under nested sessions.
 #![tactic(auto)]
 
-pub mod laws;
 mod parts;
 mod usage;
 

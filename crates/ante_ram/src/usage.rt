@@ -4,19 +4,18 @@ ghost use Rattle.std.specs.Option.{option_map};
 ghost use Rattle.std.specs.FinMap.Entries.{find, is_sorted};
 ghost use Rattle.ante_undo.specs.Stack.{opened, with_top, begun, committed, under_top, IsSquashed, without_shelf, IsShelved, IsUnshelved, IsAbove, IsSound};
 ghost use Rattle.ante_sessions.specs.Walk.{first_entry, past};
-ghost use Rattle.ante_ram.specs.Usage.{used_of, quota_of, usage_sum, with_share, moved, fall, is_free, is_over, first_over, shown_share, exceeds};
+ghost use Rattle.ante_state.specs.Billing.{most_usage};
+ghost use Rattle.ante_ram.specs.Usage.{used_of, quota_of, usage_sum, with_share, with_change, with_quota, moved, fall, is_free, is_over, first_over, shown_share, exceeds};
 ghost use Rattle.ante_ram.specs.declared.usage.RamFault.TheVariants.{OutOfMemory, RamTotal};
 
-use crate::laws::name_order;
 use crate::parts::{Parts, Rest, Share, UsageShape, put_rest, put_share};
 use ante_pack::Name;
 use ante_sessions::{Both, Entries, Kept, Sessions, next_entry};
+use ante_state::billing::MOST_USAGE;
+use ante_state::total_order;
 use ante_undo::Layered;
 use std::alloc::{AllocError, Global};
 use std::marker::{Model, PhantomData};
-
-/// What all accounts together may use.
-const MOST: u64 = 4_611_686_018_427_387_904;
 
 /// Why usage can't be changed.
 #[derive(Clone, Copy, Debug, PartialEq, Eq)]
@@ -80,14 +79,14 @@ impl Usage {
     pub fn add(&mut self, alloc: Global, account: Name, change: i64) -> Result<(), RamFault>
         requires above { IsAbove 1 self.old }
         requires falls { fall change ≤ used_of (find ⟦<Name as Ord>⟧.cmp account self.old.top) }
-        ensures ok { OnOk result (self.new ≡ with_top (with_share ⟦<Name as Ord>⟧.cmp account (moved change (used_of (find ⟦<Name as Ord>⟧.cmp account self.old.top))) (quota_of (find ⟦<Name as Ord>⟧.cmp account self.old.top)) self.old.top) self.old) }
-        ensures total { (result ≡ Err RamTotal) ↔ (2 ^ 62 < moved change (usage_sum self.old.top)) }
+        ensures ok { OnOk result (self.new ≡ with_top (with_change ⟦<Name as Ord>⟧.cmp account change self.old.top) self.old) }
+        ensures total { (result ≡ Err RamTotal) ↔ (most_usage < moved change (usage_sum self.old.top)) }
         ensures err { OnErr result (self.new ≡ self.old) }
     {
         let share = self.share(account);
         let others = self.others(account);
         let used = changed_usage(share.used, change);
-        if others + used > MOST {
+        if others + used > MOST_USAGE {
             return Err(RamFault::RamTotal);
         }
         let share = Share {
@@ -103,7 +102,7 @@ impl Usage {
     /// Sets what the account may use; -1 is no quota.
     pub fn set_quota(&mut self, alloc: Global, account: Name, quota: i64) -> Result<(), RamFault>
         requires above { IsAbove 1 self.old }
-        ensures ok { OnOk result (self.new ≡ with_top (with_share ⟦<Name as Ord>⟧.cmp account (used_of (find ⟦<Name as Ord>⟧.cmp account self.old.top)) quota self.old.top) self.old) }
+        ensures ok { OnOk result (self.new ≡ with_top (with_quota ⟦<Name as Ord>⟧.cmp account quota self.old.top) self.old) }
         ensures fault { IfErr result (λ fault. fault ≡ OutOfMemory) }
         ensures err { OnErr result (self.new ≡ self.old) }
     {
@@ -124,7 +123,7 @@ impl Usage {
         requires session { 0 < length self.now.under }
         ensures { result ≡ first_over ⟦<Name as Ord>⟧.cmp (under_top self.now) self.now.top }
     {
-        name_order();
+        total_order::<Name>();
         let mut next = self.next_usage(None);
         while let Some(account) = next {
             if self.is_over(account) {
@@ -177,7 +176,7 @@ impl Usage {
     // What all other accounts use.
     fn others(&self, account: Name) -> u64
         ensures others { result + used_of (find ⟦<Name as Ord>⟧.cmp account self.now.top) ≡ usage_sum self.now.top }
-        ensures small { usage_sum self.now.top ≤ 2 ^ 62 }
+        ensures small { usage_sum self.now.top ≤ most_usage }
     {
         let rest = self.rest();
         rest.used + self.used(rest.account) - self.used(account)
@@ -186,7 +185,7 @@ impl Usage {
     // What is written down of the rest.
     fn rest(&self) -> Rest
         ensures total { result.used + used_of (find ⟦<Name as Ord>⟧.cmp result.account self.now.top) ≡ usage_sum self.now.top }
-        ensures small { usage_sum self.now.top ≤ 2 ^ 62 }
+        ensures small { usage_sum self.now.top ≤ most_usage }
     {
         match self.kept.inner.second.get(&0) {
             Some(rest) => *rest,
@@ -207,11 +206,11 @@ impl Usage {
     ) -> Result<(), AllocError>
         requires above { IsAbove 1 self.old }
         requires others { others + used_of (find ⟦<Name as Ord>⟧.cmp account self.old.top) ≡ usage_sum self.old.top }
-        requires small { others + share.used ≤ 2 ^ 62 }
+        requires small { others + share.used ≤ most_usage }
         ensures ok { OnOk result (self.new ≡ with_top (with_share ⟦<Name as Ord>⟧.cmp account share.used share.quota self.old.top) self.old) }
         ensures err { OnErr result (self.new ≡ self.old) }
     {
-        name_order();
+        total_order::<Name>();
         let rest = Rest {
             account,
             used: others,
@@ -235,7 +234,7 @@ impl Usage {
 // Usage after a change of it.
 fn changed_usage(used: u64, change: i64) -> u64
     requires falls { fall change ≤ used }
-    requires small { used ≤ 2 ^ 62 }
+    requires small { used ≤ most_usage }
     ensures { result ≡ moved change used }
 {
     if change < 0 {

@@ -2,15 +2,16 @@
 use Rattle.std.specs.Prelude.{ℕ, List, [], ◌∷◌, Option, Some, None, if◌then◌else◌}
 use Rattle.std.specs.declared.cmp.Ordering.{Ordering}
 use Rattle.std.specs.Option.{option_or}
-use Rattle.std.specs.Ordering.{eq_by_cmp, nat_cmp, ordering_then}
+use Rattle.std.specs.Ordering.{eq_by_cmp}
 use Rattle.ante_pack.specs.declared.names.TableKey.{TableKey}
+use Rattle.ante_undo.specs.Entries.{changed}
+use Rattle.ante_state.specs.Orders.{table_order, row_order}
 use Rattle.ante_state.specs.declared.tables.RowKey.{RowKey}
+use Rattle.ante_state.specs.declared.tables.TableRow.{TableRow}
+use Rattle.ante_state.specs.declared.tables.PrimaryRow.{PrimaryRow}
+use Rattle.ante_rows.specs.declared.rows.RowsMap.{RowsMap}
 
 module _ (tables : TableKey → TableKey → Ordering) where
-  -- by table, and then by primary key
-  abbrev pub row_order : RowKey → RowKey → Ordering
-  row_order a b = ordering_then (tables a.table b.table) (nat_cmp a.primary b.primary)
-
   module _ {V : Type 0} where
     -- the rows of the table, in the order of their primary keys
     abbrev pub rows_of : TableKey → List (RowKey × V) → List (ℕ × V)
@@ -21,6 +22,13 @@ module _ (tables : TableKey → TableKey → Ordering) where
     abbrev pub in_table : TableKey → Option (RowKey × V) → Option (ℕ × V)
     in_table table None = None
     in_table table (Some e) = if eq_by_cmp tables e.0.table table then Some (e.0.primary, e.1) else None
+
+-- the maps with a table object or a row put in or taken away
+abbrev pub table_set : TableKey → Option TableRow → RowsMap → RowsMap
+table_set table object m = record { tables = changed table_order m.tables table object; rows = m.rows }
+
+abbrev pub row_set : TableKey → ℕ → Option PrimaryRow → RowsMap → RowsMap
+row_set table primary row m = record { tables = m.tables; rows = changed row_order m.rows (record { table = table; primary = primary }) row }
 
 -- the last of the entries
 abbrev pub last_entry : {K V : Type 0} → List (K × V) → Option (K × V)

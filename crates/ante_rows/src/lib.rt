@@ -1,7 +1,6 @@
 //! Contract tables and their primary rows under nested sessions.
 #![tactic(auto)]
 
-mod laws;
 mod rows;
 
 pub use ante_state::{PrimaryRow, RowKey, TableRow};

@@ -3,15 +3,14 @@ ghost use Rattle.std.specs.Option.{option_map, option_copied};
 ghost use Rattle.std.specs.Ordering.{nat_cmp};
 ghost use Rattle.std.specs.FinMap.Entries.{find, is_sorted};
 ghost use Rattle.ante_undo.specs.Stack.{opened, with_top, begun, committed, IsSquashed, without_shelf, IsShelved, IsUnshelved, IsAbove, IsSound};
-ghost use Rattle.ante_undo.specs.Entries.{changed, entry_from, entry_after, entry_before};
+ghost use Rattle.ante_undo.specs.Entries.{entry_from, entry_after, entry_before};
 ghost use Rattle.ante_sessions.specs.Walk.{first_entry, past};
-ghost use Rattle.ante_rows.specs.Rows.{rows_of, in_table, last_entry, nothing};
+ghost use Rattle.ante_rows.specs.Rows.{rows_of, in_table, table_set, row_set, last_entry, nothing};
 ghost use Rattle.std.specs.Map.Iter.{deref_pair};
 
-use crate::laws::table_order;
 use ante_pack::{Name, TableKey};
 use ante_sessions::{Both, Entries, Kept, Sessions, Shape, next_entry, set_entry};
-use ante_state::{PrimaryRow, RowKey, TableRow};
+use ante_state::{PrimaryRow, RowKey, TableRow, total_order};
 use ante_undo::Layered;
 use std::alloc::{AllocError, Global};
 use std::marker::{Model, PhantomData};
@@ -125,7 +124,7 @@ impl Rows {
     pub fn row(&self, key: &TableKey, primary: u64) -> Option<&PrimaryRow>
         ensures { option_copied result ≡ find nat_cmp primary (rows_of ⟦<TableKey as Ord>⟧.cmp key.now self.now.top.rows) }
     {
-        table_order();
+        total_order::<TableKey>();
         let place = RowKey {
             table: *key,
             primary,
@@ -138,7 +137,7 @@ impl Rows {
         ensures nearest { option_map (λ e. (e.0, e.1.now)) result ≡ entry_from nat_cmp primary (rows_of ⟦<TableKey as Ord>⟧.cmp key.now self.now.top.rows) }
         ensures ordered { IsTrue (is_sorted nat_cmp (rows_of ⟦<TableKey as Ord>⟧.cmp key.now self.now.top.rows)) }
     {
-        table_order();
+        total_order::<TableKey>();
         let place = RowKey {
             table: *key,
             primary,
@@ -151,7 +150,7 @@ impl Rows {
         ensures nearest { option_map (λ e. (e.0, e.1.now)) result ≡ entry_after nat_cmp primary (rows_of ⟦<TableKey as Ord>⟧.cmp key.now self.now.top.rows) }
         ensures ordered { IsTrue (is_sorted nat_cmp (rows_of ⟦<TableKey as Ord>⟧.cmp key.now self.now.top.rows)) }
     {
-        table_order();
+        total_order::<TableKey>();
         let place = RowKey {
             table: *key,
             primary,
@@ -164,7 +163,7 @@ impl Rows {
         ensures nearest { option_map (λ e. (e.0, e.1.now)) result ≡ entry_before nat_cmp primary (rows_of ⟦<TableKey as Ord>⟧.cmp key.now self.now.top.rows) }
         ensures ordered { IsTrue (is_sorted nat_cmp (rows_of ⟦<TableKey as Ord>⟧.cmp key.now self.now.top.rows)) }
     {
-        table_order();
+        total_order::<TableKey>();
         let place = RowKey {
             table: *key,
             primary,
@@ -202,7 +201,7 @@ impl Rows {
         row: PrimaryRow,
     ) -> Result<(), AllocError>
         requires above { IsAbove 1 self.old }
-        ensures ok { OnOk result (self.new ≡ with_top (record { tables = self.old.top.tables; rows = changed ⟦<RowKey as Ord>⟧.cmp self.old.top.rows (record { table = key; primary = primary }) (Some row) }) self.old) }
+        ensures ok { OnOk result (self.new ≡ with_top (row_set key primary (Some row) self.old.top) self.old) }
         ensures err { OnErr result (self.new ≡ self.old) }
     {
         let place = RowKey {
@@ -222,7 +221,7 @@ impl Rows {
     ) -> Result<bool, AllocError>
         requires above { IsAbove 1 self.old }
         ensures there { IfOk result (λ there. there ≡ is_some (find ⟦<RowKey as Ord>⟧.cmp (record { table = key.now; primary = primary }) self.old.top.rows)) }
-        ensures ok { OnOk result (self.new ≡ with_top (record { tables = self.old.top.tables; rows = changed ⟦<RowKey as Ord>⟧.cmp self.old.top.rows (record { table = key.now; primary = primary }) None }) self.old) }
+        ensures ok { OnOk result (self.new ≡ with_top (row_set key.now primary None self.old.top) self.old) }
         ensures err { OnErr result (self.new ≡ self.old) }
     {
         let place = RowKey {
@@ -241,7 +240,7 @@ impl Rows {
         row: Option<TableRow>,
     ) -> Result<(), AllocError>
         requires above { IsAbove 1 self.old }
-        ensures ok { OnOk result (self.new ≡ with_top (record { tables = changed ⟦<TableKey as Ord>⟧.cmp self.old.top.tables key row; rows = self.old.top.rows }) self.old) }
+        ensures ok { OnOk result (self.new ≡ with_top (table_set key row self.old.top) self.old) }
         ensures err { OnErr result (self.new ≡ self.old) }
     {
         let parts = &mut self.kept.inner;

@@ -1,5 +1,6 @@
 // What contracts rest on, each as a function with an empty body: its contract is all that it is for.
 ghost use Rattle.std.specs.Prelude.{◌≡◌};
+ghost use Rattle.std.specs.Cmp.{IsTotalOrder};
 ghost use Rattle.ante_state.specs.Orders.{name_order, table_order, row_order, level_order, link_order, recent_order};
 
 use crate::objects::{LinkKey, RecentKey};
@@ -34,4 +35,9 @@ pub fn links_are_ordered()
 /// Transactions that were run are ordered by the moment of expiration, and then by id.
 pub fn recent_are_ordered()
     ensures { ⟦<RecentKey as Ord>⟧.cmp ≡ recent_order }
+{}
+
+/// Every order that keys have is total.
+pub fn total_order<K: Ord>()
+    ensures { IsTotalOrder K.cmp }
 {}

@@ -1,5 +1,5 @@
 -- A change that moves bills and one map: what follows for the rule, and for its refusal.
-use Rattle.std.proofs.Common.{◌≡◌, ℕ, ◌≤◌, ◌<◌, ◌^◌, true, false, cond, ◌||◌, T, List, [], Some, None, IfSome, refl, sym, ap, subst, ◌∙◌, arith}
+use Rattle.std.proofs.Common.{◌≡◌, ℕ, ◌≤◌, ◌<◌, true, false, cond, ◌||◌, T, List, [], Some, None, IfSome, refl, sym, ap, subst, ◌∙◌, arith}
 use Rattle.std.specs.Prelude.{nat_lt}
 use Rattle.std.specs.Ordering.{nat_cmp}
 use Rattle.std.specs.Option.{option_or}
@@ -10,6 +10,7 @@ use Rattle.ante_undo.specs.Stack.{Stack, with_top}
 use Rattle.ante_sums.specs.Weights.{weight_of}
 use Rattle.ante_pack.specs.declared.names.Name.{Name}
 use Rattle.ante_pack.specs.declared.names.TableKey.{TableKey}
+use Rattle.ante_state.specs.Billing.{most_usage}
 use Rattle.ante_state.specs.Orders.{name_order, table_order, row_order, level_order, link_order, recent_order}
 use Rattle.ante_types.specs.World.{World, bills, paid_by, used_by_all}
 use Rattle.ante_ram.specs.declared.parts.Share.{Share}
@@ -80,17 +81,17 @@ not_over a b h = grind (arith, nat_tests)
 over : (a b : ℕ) → b < a → nat_lt b a ≡ true
 over a b h = grind (arith, nat_tests)
 
-pub granted_by : (c : Change) (w : World) → misplaced c w ≡ None → is_full c w ≡ false → used_by_all (after c w) ≤ 2 ^ 62 → refusal c w ≡ None
+pub granted_by : (c : Change) (w : World) → misplaced c w ≡ None → is_full c w ≡ false → used_by_all (after c w) ≤ most_usage → refusal c w ≡ None
 granted_by c w placed room small =
     ap (λ first. option_or first (cond (is_full c w || is_too_much c w) (Some error.RamTotal) None)) placed
     ∙ ap (λ full. cond (full || is_too_much c w) (Some error.RamTotal) None) room
-    ∙ ap (λ over. cond over (Some error.RamTotal) None) (not_over (used_by_all (after c w)) (2 ^ 62) small)
+    ∙ ap (λ over. cond over (Some error.RamTotal) None) (not_over (used_by_all (after c w)) most_usage small)
 
-overfull_by : (c : Change) (w : World) → misplaced c w ≡ None → is_full c w ≡ false → 2 ^ 62 < used_by_all (after c w) → refusal c w ≡ Some error.RamTotal
+overfull_by : (c : Change) (w : World) → misplaced c w ≡ None → is_full c w ≡ false → most_usage < used_by_all (after c w) → refusal c w ≡ Some error.RamTotal
 overfull_by c w placed room large =
     ap (λ first. option_or first (cond (is_full c w || is_too_much c w) (Some error.RamTotal) None)) placed
     ∙ ap (λ full. cond (full || is_too_much c w) (Some error.RamTotal) None) room
-    ∙ ap (λ over. cond over (Some error.RamTotal) None) (over (used_by_all (after c w)) (2 ^ 62) large)
+    ∙ ap (λ over. cond over (Some error.RamTotal) None) (over (used_by_all (after c w)) most_usage large)
 
 -- the bills that are removed are a part of what their payers use
 pub leads_within : (c : Change) (removed added : List (Name × ℕ)) (old : Maps) (x : Maps) → IsBilled old → Leads c removed added old x →
@@ -99,7 +100,7 @@ leads_within c removed added old x is leads account = omega (arith, leads.within
 
 -- usage moves as the bills do, and the rule holds
 pub made : (c : Change) (removed added : List (Name × ℕ)) (old : Maps) (x : Maps) (shares : List (Name × Share)) →
-    IsBilled old → Leads c removed added old x → IsRebilled removed added old.usage shares → usage_sum shares ≤ 2 ^ 62 → IsMade c old (with_usage shares x)
+    IsBilled old → Leads c removed added old x → IsRebilled removed added old.usage shares → usage_sum shares ≤ most_usage → IsMade c old (with_usage shares x)
 made c removed added old x shares is leads rebilled small =
     let world : world_of (with_usage shares x) ≡ after c (world_of old) = same_quotas x shares (rebilled.quotas ∙ sym (ap quotas_of leads.usage)) ∙ leads.world in
     let total : used_by_all (world_of (with_usage shares x)) ≡ usage_sum shares = omega (arith, leads.rebills (λ bill. bill.1), rebilled.total, is.total) in
@@ -142,7 +143,7 @@ twice first second old mid new e e2 = e2 ∙ ap (λ s. with_top (second s.top) s
 -- what the parts show after the bills and then a map were changed
 pub made_then : (c : Change) (removed added : List (Name × ℕ)) (change : Maps → Maps) (x : Maps) (old mid new : Stack Maps) →
     ((shares : List (Name × Share)) → change (with_usage shares old.top) ≡ with_usage shares x) → IsBilled old.top → Leads c removed added old.top x →
-    IsRebilled removed added old.top.usage mid.top.usage → usage_sum mid.top.usage ≤ 2 ^ 62 → mid ≡ with_top (with_usage mid.top.usage old.top) old → new ≡ with_top (change mid.top) mid → IsMade c old.top new.top
+    IsRebilled removed added old.top.usage mid.top.usage → usage_sum mid.top.usage ≤ most_usage → mid ≡ with_top (with_usage mid.top.usage old.top) old → new ≡ with_top (change mid.top) mid → IsMade c old.top new.top
 made_then c removed added change x old mid new is_x is leads rebilled small same e =
     let top : new.top ≡ with_usage mid.top.usage x = ap (λ s. s.top) e ∙ ap (λ s. change s.top) same ∙ is_x mid.top.usage in
     subst (IsMade c old.top) (sym top) (made c removed added old.top x mid.top.usage is leads rebilled small)

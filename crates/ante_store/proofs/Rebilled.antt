@@ -1,5 +1,5 @@
 -- Usage after one bill more was taken out of it or added to it.
-use Rattle.std.proofs.Common.{◌≡◌, ℕ, suc, ◌+◌, ◌-◌, ◌≤◌, ◌<◌, ◌^◌, ◌==◌, Bool, true, false, cond, T, ℤ, List, [], ◌∷◌, ◌++◌, length, take, slice_index_or, refl, sym, ap, subst, ◌∙◌, arith, Equal}
+use Rattle.std.proofs.Common.{◌≡◌, ℕ, suc, ◌+◌, ◌-◌, ◌≤◌, ◌<◌, ◌==◌, Bool, true, false, cond, T, ℤ, List, [], ◌∷◌, ◌++◌, length, take, slice_index_or, refl, sym, ap, subst, ◌∙◌, arith, Equal}
 use Rattle.std.specs.Ordering.{eq_by_cmp}
 use Rattle.std.specs.Cmp.{IsTotalOrder}
 use Rattle.std.specs.FinMap.Entries.{find, is_sorted}
@@ -9,6 +9,7 @@ use Rattle.ante_ram.proofs.Sums.{used_within}
 use Rattle.ante_undo.specs.Stack.{Stack, with_top}
 use Rattle.ante_undo.proofs.Entries.{find_changed, sorted_changed}
 use Rattle.ante_pack.specs.declared.names.Name.{Name}
+use Rattle.ante_state.specs.Billing.{most_usage}
 use Rattle.ante_state.specs.Orders.{name_order}
 use Rattle.ante_types.specs.World.{paid_by}
 use Rattle.ante_ram.specs.declared.parts.Share.{Share}
@@ -116,7 +117,7 @@ next_within bills i d old mid lt within is =
       pays_all bill,
     )
 
-pub next_fits : (bills : List (Name × ℕ)) (i : ℕ) (d : Name × ℕ) (old mid : List (Name × Share)) → i < length bills → ((a : Name) → paid a bills ≤ used_of (find name_order a old)) → IsRebilled (take i bills) [] old mid → usage_sum old ≤ 2 ^ 62 → (slice_index_or bills i d).1 ≤ 2 ^ 62
+pub next_fits : (bills : List (Name × ℕ)) (i : ℕ) (d : Name × ℕ) (old mid : List (Name × Share)) → i < length bills → ((a : Name) → paid a bills ≤ used_of (find name_order a old)) → IsRebilled (take i bills) [] old mid → usage_sum old ≤ most_usage → (slice_index_or bills i d).1 ≤ most_usage
 next_fits bills i d old mid lt within is small =
     let bill = slice_index_or bills i d in
     omega (arith, next_within bills i d old mid lt within is, is.used bill.0, used_within name_order bill.0 old, small)
@@ -136,5 +137,5 @@ module _ (o : IsTotalOrder name_order) (exact : (a b : Name) → name_order a b 
       subst (λ added. IsRebilled [] added old new) (sym (take_next bills i d lt)) (one_added o exact [] (take i bills) bill.0 bill.1 old mid new is e)
 
   -- and the sum stays within bounds where the bill was let in
-  pub next_small : (k : Name) (size : ℕ) (mid new : List (Name × Share)) → T (is_sorted name_order mid) → new ≡ with_share name_order k (used_of (find name_order k mid) + size) (quota_of (find name_order k mid)) mid → usage_sum mid + size ≤ 2 ^ 62 → usage_sum new ≤ 2 ^ 62
+  pub next_small : (k : Name) (size : ℕ) (mid new : List (Name × Share)) → T (is_sorted name_order mid) → new ≡ with_share name_order k (used_of (find name_order k mid) + size) (quota_of (find name_order k mid)) mid → usage_sum mid + size ≤ most_usage → usage_sum new ≤ most_usage
   next_small k size mid new sorted e le = omega (arith, ap usage_sum e, sum_share name_order o k (used_of (find name_order k mid) + size) (quota_of (find name_order k mid)) mid sorted, le)

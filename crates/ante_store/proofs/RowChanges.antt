@@ -13,6 +13,7 @@ use Rattle.ante_sums.specs.Weights.{weight_of, weight_at}
 use Rattle.ante_sums.proofs.Changed.{weight_within, weight_changed}
 use Rattle.ante_pack.specs.declared.names.Name.{Name}
 use Rattle.ante_pack.specs.declared.names.TableKey.{TableKey}
+use Rattle.ante_state.specs.Billing.{table_size, row_size}
 use Rattle.ante_state.specs.Orders.{table_order, row_order}
 use Rattle.ante_state.specs.declared.tables.RowKey.{RowKey}
 use Rattle.ante_state.specs.declared.tables.TableRow.{TableRow}
@@ -127,7 +128,7 @@ opened part table (Some t) payer = omega arith
 closed : (part : Name × ℕ → ℕ) (table : TableKey) (object : Option TableRow) →
     sum_by part (bills_at table_bills table (without_row object)) + sum_by part (closing_bills object) ≡ sum_by part (bills_at table_bills table object)
 closed part table None = refl
-closed part table (Some t) = elim (nat_le t.count 1) as (λ b. sum_by part (bills_at table_bills table (cond b None (Some (record { payer = t.payer; count = t.count - 1 })))) + sum_by part (cond b ((t.payer, 112) ∷ []) []) ≡ sum_by part ((t.payer, 112) ∷ [])) [
+closed part table (Some t) = elim (nat_le t.count 1) as (λ b. sum_by part (bills_at table_bills table (cond b None (Some (record { payer = t.payer; count = t.count - 1 })))) + sum_by part (cond b ((t.payer, table_size) ∷ []) []) ≡ sum_by part ((t.payer, table_size) ∷ [])) [
   | true ↦ omega arith
   | false ↦ omega arith
 ]
@@ -136,7 +137,7 @@ closed part table (Some t) = elim (nat_le t.count 1) as (λ b. sum_by part (bill
 
 pub store_leads : (table : TableKey) (primary : ℕ) (payer : Name) (bytes : List ℕ) (old : Maps) → IsBilled old →
     find row_order (record { table = table; primary = primary }) old.rows.rows ≡ None → is_full (change.StoreRow table primary payer bytes) (world_of old) ≡ false →
-    Leads (change.StoreRow table primary payer bytes) [] (opening_bills (find table_order table old.rows.tables) payer ++ (payer, 112 + length bytes) ∷ []) old (in_rows (λ m. record {
+    Leads (change.StoreRow table primary payer bytes) [] (opening_bills (find table_order table old.rows.tables) payer ++ (payer, row_size + length bytes) ∷ []) old (in_rows (λ m. record {
       tables = changed table_order old.rows.tables table (Some (with_row (find table_order table old.rows.tables) payer));
       rows = changed row_order old.rows.rows (record { table = table; primary = primary }) (Some (record { payer = payer; bytes = bytes }));
     }) old)
@@ -160,7 +161,7 @@ store_leads table primary payer bytes old is absent room =
         opened part table object payer,
         entry_rebills row_order rows_total rows_exact row_bills part rows key (Some row) is.rows,
         ap (λ found. sum_by part (bills_at row_bills key found)) absent,
-        sum_by-append part (opening_bills object payer) ((payer, 112 + length bytes) ∷ []),
+        sum_by-append part (opening_bills object payer) ((payer, row_size + length bytes) ∷ []),
       );
       within = λ part. omega arith;
       kept = record {
@@ -178,7 +179,7 @@ store_leads table primary payer bytes old is absent room =
 
 pub update_leads : (table : TableKey) (primary : ℕ) (payer : Name) (bytes : List ℕ) (was : PrimaryRow) (old : Maps) → IsBilled old →
     find row_order (record { table = table; primary = primary }) old.rows.rows ≡ Some was →
-    Leads (change.UpdateRow table primary payer bytes) ((was.payer, 112 + length was.bytes) ∷ []) ((payer, 112 + length bytes) ∷ []) old (in_rows (λ m. record {
+    Leads (change.UpdateRow table primary payer bytes) ((was.payer, row_size + length was.bytes) ∷ []) ((payer, row_size + length bytes) ∷ []) old (in_rows (λ m. record {
       tables = old.rows.tables;
       rows = changed row_order old.rows.rows (record { table = table; primary = primary }) (Some (record { payer = payer; bytes = bytes }));
     }) old)
@@ -225,7 +226,7 @@ update_leads table primary payer bytes was old is there =
 
 pub remove_leads : (table : TableKey) (primary : ℕ) (was : PrimaryRow) (old : Maps) → IsBilled old →
     find row_order (record { table = table; primary = primary }) old.rows.rows ≡ Some was →
-    Leads (change.RemoveRow table primary) (closing_bills (find table_order table old.rows.tables) ++ (was.payer, 112 + length was.bytes) ∷ []) [] old (in_rows (λ m. record {
+    Leads (change.RemoveRow table primary) (closing_bills (find table_order table old.rows.tables) ++ (was.payer, row_size + length was.bytes) ∷ []) [] old (in_rows (λ m. record {
       tables = changed table_order old.rows.tables table (without_row (find table_order table old.rows.tables));
       rows = changed row_order old.rows.rows (record { table = table; primary = primary }) None;
     }) old)
@@ -256,7 +257,7 @@ remove_leads table primary was old is there =
         closed part table object,
         entry_rebills row_order rows_total rows_exact row_bills part rows key None is.rows,
         ap (λ found. sum_by part (bills_at row_bills key found)) there,
-        sum_by-append part (closing_bills object) ((was.payer, 112 + length was.bytes) ∷ []),
+        sum_by-append part (closing_bills object) ((was.payer, row_size + length was.bytes) ∷ []),
       );
       within = λ part. omega (
         arith,
@@ -265,7 +266,7 @@ remove_leads table primary was old is there =
         closed part table object,
         entry_within row_order rows_total rows_exact row_bills part rows key,
         ap (λ found. sum_by part (bills_at row_bills key found)) there,
-        sum_by-append part (closing_bills object) ((was.payer, 112 + length was.bytes) ∷ []),
+        sum_by-append part (closing_bills object) ((was.payer, row_size + length was.bytes) ∷ []),
       );
       kept = record {
         accounts = is.accounts;

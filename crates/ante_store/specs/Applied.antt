@@ -1,5 +1,6 @@
 -- What a change makes of the parts that a world stands for.
 use Rattle.std.specs.Prelude.{◌≡◌, ◌+◌, ◌<◌, ◌^◌, ℕ, List, Result, Ok, Err, None}
+use Rattle.ante_state.specs.Billing.{most_usage}
 use Rattle.ante_pack.specs.declared.names.Name.{Name}
 use Rattle.ante_rows.specs.declared.rows.RowsMap.{RowsMap}
 use Rattle.ante_objects.specs.declared.objects.ObjectsMap.{ObjectsMap}
@@ -37,7 +38,7 @@ MadeOrRefused c old new (Err e) = IsCause c (world_of old) e
 -- usage can't take the bills in: memory is wanting, or all together would use more than 2^62 bytes
 abbrev pub IsUnpaid : (removed added : List (Name × ℕ)) → List (Name × Share) → WriteError → Type 0
 IsUnpaid removed added shares error.OutOfMemory = Unit {0}
-IsUnpaid removed added shares error.RamTotal = 2 ^ 62 + sizes removed < usage_sum shares + sizes added
+IsUnpaid removed added shares error.RamTotal = most_usage + sizes removed < usage_sum shares + sizes added
 IsUnpaid removed added shares error.WriteRefused = ⊥
 IsUnpaid removed added shares error.Missing = ⊥
 IsUnpaid removed added shares error.Exists = ⊥

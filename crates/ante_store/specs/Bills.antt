@@ -4,6 +4,7 @@ use Rattle.std.specs.List.{sum_by}
 use Rattle.std.specs.Ordering.{int_eq}
 use Rattle.std.specs.FinMap.Entries.{find, is_sorted}
 use Rattle.ante_pack.specs.declared.names.Name.{Name}
+use Rattle.ante_state.specs.Billing.{table_size}
 use Rattle.ante_state.specs.Orders.{name_order}
 use Rattle.ante_state.specs.declared.tables.TableRow.{TableRow}
 use Rattle.ante_types.specs.World.{World, bills, paid_by}
@@ -40,12 +41,12 @@ bills_at of_entry key (Some value) = of_entry (key, value)
 
 -- the bill of a table object that comes with its first row, and of one that goes with its last
 abbrev pub opening_bills : Option TableRow → Name → List (Name × ℕ)
-opening_bills None payer = (payer, 112) ∷ []
+opening_bills None payer = (payer, table_size) ∷ []
 opening_bills (Some table) payer = []
 
 abbrev pub closing_bills : Option TableRow → List (Name × ℕ)
 closing_bills None = []
-closing_bills (Some table) = if nat_le table.count 1 then (table.payer, 112) ∷ [] else []
+closing_bills (Some table) = if nat_le table.count 1 then (table.payer, table_size) ∷ [] else []
 
 -- From the one world to the other these bills are removed and those are added, whatever is summed up of them.
 abbrev pub Rebills : (removed added : List (Name × ℕ)) → World → World → Type 0

@@ -1,11 +1,12 @@
 -- What a change makes of the world, and when it is refused.
-use Rattle.std.specs.Prelude.{◌≡◌, ℕ, ◌+◌, ◌-◌, ◌^◌, Bool, false, ◌||◌, List, Option, Some, None, is_some, nat_le, nat_lt, if◌then◌else◌}
+use Rattle.std.specs.Prelude.{◌≡◌, ℕ, ◌+◌, ◌-◌, Bool, false, ◌||◌, List, Option, Some, None, is_some, nat_le, nat_lt, if◌then◌else◌}
 use Rattle.std.specs.Option.{option_or}
 use Rattle.std.specs.Ordering.{nat_cmp}
 use Rattle.std.specs.FinMap.Entries.{find}
 use Rattle.ante_undo.specs.Entries.{changed}
 use Rattle.ante_pack.specs.declared.names.Name.{Name}
 use Rattle.ante_pack.specs.declared.names.TableKey.{TableKey}
+use Rattle.ante_state.specs.Billing.{most_usage, most_rows}
 use Rattle.ante_state.specs.Orders.{name_order, table_order, row_order, level_order, link_order, recent_order}
 use Rattle.ante_state.specs.declared.tables.RowKey.{RowKey}
 use Rattle.ante_state.specs.declared.tables.TableRow.{TableRow}
@@ -83,10 +84,6 @@ misplaced (change.SetQuota account quota) w = None
 misplaced (change.SetRecent expiration id there) w = None
 misplaced (change.SetReference low id) w = None
 
--- the most rows of a table
-abbrev pub most_rows : ℕ
-most_rows = 4294967295
-
 -- one table would have too many rows
 abbrev pub is_full : Change → World → Bool
 is_full (change.StoreRow table primary payer bytes) w = nat_le most_rows (count_of (find table_order table w.tables))
@@ -101,7 +98,7 @@ is_full (change.SetReference low id) w = false
 
 -- all accounts together would use too much
 abbrev pub is_too_much : Change → World → Bool
-is_too_much c w = nat_lt (2 ^ 62) (used_by_all (after c w))
+is_too_much c w = nat_lt most_usage (used_by_all (after c w))
 
 -- why the change can't be made, if there is a reason: where its row stands comes first
 abbrev pub refusal : Change → World → Option WriteError

@@ -5,6 +5,7 @@ use Rattle.std.specs.FinMap.Entries.{find, is_sorted}
 use Rattle.ante_sums.specs.Weights.{weight_of}
 use Rattle.ante_pack.specs.declared.names.Name.{Name}
 use Rattle.ante_pack.specs.declared.names.TableKey.{TableKey}
+use Rattle.ante_state.specs.Billing.{most_usage}
 use Rattle.ante_state.specs.Orders.{name_order, table_order, row_order, level_order, link_order, recent_order}
 use Rattle.ante_state.specs.declared.tables.RowKey.{RowKey}
 use Rattle.ante_state.specs.declared.tables.PrimaryRow.{PrimaryRow}
@@ -46,7 +47,7 @@ pub record IsWorld (w : World) : Type 0 where
   pub references : T (is_sorted nat_cmp w.references)
   pub tables : T (is_sorted table_order w.tables)
   pub rows : T (is_sorted row_order w.rows)
-  pub small : used_by_all w ≤ 2 ^ 62
+  pub small : used_by_all w ≤ most_usage
   pub counted : (table : TableKey) → rows_in table w.rows ≡ count_of (find table_order table w.tables)
   pub some : (table : TableKey) → IfSome (find table_order table w.tables) (λ t. 0 < t.count)
 
@@ -62,7 +63,7 @@ pub record IsBilled (m : Maps) : Type 0 where
   pub shares : T (is_sorted name_order m.usage)
   pub billed : (account : Name) → used (world_of m) account ≡ used_of (find name_order account m.usage)
   pub total : used_by_all (world_of m) ≡ usage_sum m.usage
-  pub small : usage_sum m.usage ≤ 2 ^ 62
+  pub small : usage_sum m.usage ≤ most_usage
   pub counted : (table : TableKey) → weight_of (of_table table) m.rows.rows ≡ count_of (find table_order table m.rows.tables)
   pub some : (table : TableKey) → IfSome (find table_order table m.rows.tables) (λ t. 0 < t.count)
 

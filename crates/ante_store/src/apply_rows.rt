@@ -2,6 +2,7 @@
 ghost use Rattle.std.specs.Prelude.{◌≡◌, ◌<◌};
 ghost use Rattle.ante_undo.specs.Stack.{with_top, IsAbove};
 ghost use Rattle.ante_store.specs.declared.change.Change.TheVariants as change;
+ghost use Rattle.ante_state.specs.Billing.{most_rows};
 ghost use Rattle.ante_store.specs.Changes.{with_row, without_row, count_of};
 ghost use Rattle.ante_store.specs.Worlds.{IsBilled};
 ghost use Rattle.ante_store.specs.Applied.{MadeOrRefused};
@@ -13,11 +14,9 @@ use crate::maps;
 use crate::maps::{has_row, row_at, table_at};
 use crate::parts::Parts;
 use ante_pack::{Bytes, Name, TableKey};
+use ante_state::billing::MOST_ROWS;
 use ante_state::{PrimaryRow, TableRow};
 use std::alloc::Global;
-
-/// The most rows of a table.
-const MOST_ROWS: u32 = 4_294_967_295;
 
 pub(crate) fn store_row(
     alloc: Global,
@@ -102,7 +101,7 @@ fn count_of(object: Option<TableRow>) -> u32
 }
 
 fn with_row(object: Option<TableRow>, payer: Name) -> TableRow
-    requires room { count_of object < 4294967295 }
+    requires room { count_of object < most_rows }
     ensures { result ≡ with_row object payer }
 {
     match object {

@@ -1,9 +1,10 @@
 // What is billed, taken out of the usage of accounts and added to it.
-ghost use Rattle.std.specs.Prelude.{◌≡◌, ◌+◌, ◌-◌, ◌<◌, ◌≤◌, ◌^◌, [], Err, OnOk, OnErr, IfErr, IsTrue, ◌↔◌};
+ghost use Rattle.std.specs.Prelude.{◌≡◌, ◌+◌, ◌-◌, ◌<◌, ◌≤◌, [], Err, OnOk, OnErr, IfErr, IsTrue, ◌↔◌};
 ghost use Rattle.std.specs.FinMap.Entries.{find, is_sorted};
 ghost use Rattle.ante_undo.specs.Stack.{with_top, IsAbove};
 ghost use Rattle.ante_state.specs.Orders.{name_order};
-ghost use Rattle.ante_ram.specs.Usage.{used_of, quota_of, usage_sum, with_share};
+ghost use Rattle.ante_state.specs.Billing.{most_usage};
+ghost use Rattle.ante_ram.specs.Usage.{used_of, usage_sum, with_used};
 ghost use Rattle.ante_ram.specs.declared.usage.RamFault.TheVariants.{OutOfMemory, RamTotal};
 ghost use Rattle.ante_store.specs.Bills.{paid, sizes, IsRebilled};
 ghost use Rattle.ante_store.specs.Worlds.{IsBilled};
@@ -14,17 +15,15 @@ use crate::change::WriteError;
 use crate::parts::Parts;
 use ante_pack::Name;
 use ante_ram::{RamFault, Usage};
+use ante_state::billing::MOST_USAGE;
 use std::alloc::Global;
-
-/// What all accounts together may use.
-const MOST: u128 = 4_611_686_018_427_387_904;
 
 fn lower(alloc: Global, usage: &mut Usage, payer: Name, size: u128) -> Result<(), RamFault>
     requires above { IsAbove 1 usage.old }
-    requires small { usage_sum usage.old.top ≤ 2 ^ 62 }
+    requires small { usage_sum usage.old.top ≤ most_usage }
     requires within { size ≤ used_of (find name_order payer usage.old.top) }
-    requires fits { size ≤ 2 ^ 62 }
-    ensures ok { OnOk result (usage.new ≡ with_top (with_share name_order payer (used_of (find name_order payer usage.old.top) - size) (quota_of (find name_order payer usage.old.top)) usage.old.top) usage.old) }
+    requires fits { size ≤ most_usage }
+    ensures ok { OnOk result (usage.new ≡ with_top (with_used name_order payer (used_of (find name_order payer usage.old.top) - size) usage.old.top) usage.old) }
     ensures fault { IfErr result (λ fault. fault ≡ OutOfMemory) }
     ensures err { OnErr result (usage.new ≡ usage.old) }
 {
@@ -33,12 +32,12 @@ fn lower(alloc: Global, usage: &mut Usage, payer: Name, size: u128) -> Result<()
 
 fn raise(alloc: Global, usage: &mut Usage, payer: Name, size: u128) -> Result<(), RamFault>
     requires above { IsAbove 1 usage.old }
-    ensures ok { OnOk result (usage.new ≡ with_top (with_share name_order payer (used_of (find name_order payer usage.old.top) + size) (quota_of (find name_order payer usage.old.top)) usage.old.top) usage.old) }
-    ensures total { (result ≡ Err RamTotal) ↔ (2 ^ 62 < usage_sum usage.old.top + size) }
-    ensures small { OnOk result (usage_sum usage.old.top + size ≤ 2 ^ 62) }
+    ensures ok { OnOk result (usage.new ≡ with_top (with_used name_order payer (used_of (find name_order payer usage.old.top) + size) usage.old.top) usage.old) }
+    ensures total { (result ≡ Err RamTotal) ↔ (most_usage < usage_sum usage.old.top + size) }
+    ensures small { OnOk result (usage_sum usage.old.top + size ≤ most_usage) }
     ensures err { OnErr result (usage.new ≡ usage.old) }
 {
-    if size > MOST {
+    if size > MOST_USAGE as u128 {
         return Err(RamFault::RamTotal);
     }
     usage.add(alloc, payer, size as i64)
@@ -48,7 +47,7 @@ fn raise(alloc: Global, usage: &mut Usage, payer: Name, size: u128) -> Result<()
 pub(crate) fn lower_all(alloc: Global, usage: &mut Usage, bills: &[Bill]) -> Result<(), RamFault>
     requires above { IsAbove 1 usage.old }
     requires sorted { IsTrue (is_sorted name_order usage.old.top) }
-    requires small { usage_sum usage.old.top ≤ 2 ^ 62 }
+    requires small { usage_sum usage.old.top ≤ most_usage }
     requires within { (account : Name) → paid account bills.now ≤ used_of (find name_order account usage.old.top) }
     ensures ok { OnOk result (IsRebilled bills.now [] usage.old.top usage.new.top) }
     ensures top { usage.new ≡ with_top usage.new.top usage.old }
@@ -64,11 +63,11 @@ pub(crate) fn lower_all(alloc: Global, usage: &mut Usage, bills: &[Bill]) -> Res
 pub(crate) fn raise_all(alloc: Global, usage: &mut Usage, bills: &[Bill]) -> Result<(), RamFault>
     requires above { IsAbove 1 usage.old }
     requires sorted { IsTrue (is_sorted name_order usage.old.top) }
-    requires small { usage_sum usage.old.top ≤ 2 ^ 62 }
+    requires small { usage_sum usage.old.top ≤ most_usage }
     ensures ok { OnOk result (IsRebilled [] bills.now usage.old.top usage.new.top) }
     ensures top { usage.new ≡ with_top usage.new.top usage.old }
-    ensures total { result ≡ Err RamTotal → 2 ^ 62 < usage_sum usage.old.top + sizes bills.now }
-    ensures small { OnOk result (usage_sum usage.old.top + sizes bills.now ≤ 2 ^ 62) }
+    ensures total { result ≡ Err RamTotal → most_usage < usage_sum usage.old.top + sizes bills.now }
+    ensures small { OnOk result (usage_sum usage.old.top + sizes bills.now ≤ most_usage) }
 {
     for (payer, size) in bills {
         raise(alloc, usage, *payer, *size)?;
@@ -85,12 +84,12 @@ fn exchange(
 ) -> Result<(), RamFault>
     requires above { IsAbove 1 usage.old }
     requires sorted { IsTrue (is_sorted name_order usage.old.top) }
-    requires small { usage_sum usage.old.top ≤ 2 ^ 62 }
+    requires small { usage_sum usage.old.top ≤ most_usage }
     requires within { (account : Name) → paid account removed.now ≤ used_of (find name_order account usage.old.top) }
     ensures ok { OnOk result (IsRebilled removed.now added.now usage.old.top usage.new.top) }
     ensures top { usage.new ≡ with_top usage.new.top usage.old }
-    ensures total { result ≡ Err RamTotal → 2 ^ 62 + sizes removed.now < usage_sum usage.old.top + sizes added.now }
-    ensures small { OnOk result (usage_sum usage.new.top ≤ 2 ^ 62) }
+    ensures total { result ≡ Err RamTotal → most_usage + sizes removed.now < usage_sum usage.old.top + sizes added.now }
+    ensures small { OnOk result (usage_sum usage.new.top ≤ most_usage) }
 {
     lower_all(alloc, usage, removed.as_slice())?;
     raise_all(alloc, usage, added.as_slice())
@@ -108,7 +107,7 @@ pub(crate) fn rebill(
     requires within { (account : Name) → paid account removed.now ≤ used_of (find name_order account parts.old.top.usage) }
     ensures ok { OnOk result (IsRebilled removed.now added.now parts.old.top.usage parts.new.top.usage) }
     ensures same { parts.new ≡ with_top (with_usage parts.new.top.usage parts.old.top) parts.old }
-    ensures small { OnOk result (usage_sum parts.new.top.usage ≤ 2 ^ 62) }
+    ensures small { OnOk result (usage_sum parts.new.top.usage ≤ most_usage) }
     ensures err { IfErr result (IsUnpaid removed.now added.now parts.old.top.usage) }
 {
     let both = &mut parts.inner;

@@ -2,6 +2,7 @@
 ghost use Rattle.std.specs.Prelude.{◌≡◌, ◌+◌, [], ◌∷◌, ◌++◌, length};
 ghost use Rattle.std.specs.FinMap.Entries.{find};
 ghost use Rattle.ante_state.specs.Orders.{name_order, level_order, link_order};
+ghost use Rattle.ante_state.specs.Billing.{row_size};
 ghost use Rattle.ante_types.specs.World.{account_bills, permission_bills, link_bills};
 ghost use Rattle.ante_store.specs.Bills.{bills_at, opening_bills, closing_bills};
 
@@ -9,21 +10,14 @@ use crate::maps::objects_of;
 use crate::parts::Parts;
 use crate::sizes::authority_size;
 use ante_pack::{Bytes, Level, Name};
+use ante_state::billing::{
+    ACCOUNT_SIZE, CODE_FACTOR, LINK_SIZE, PERMISSION_SIZE, ROW_SIZE, TABLE_SIZE,
+};
 use ante_state::{AccountRow, PermissionRow, TableRow};
 use std::marker::Model;
 
 /// A payer and a size in bytes. Sizes and their sums can't overflow 128 bits.
 pub(crate) type Bill = (Name, u128);
-
-const ACCOUNT: u128 = 2720;
-
-const PERMISSION: u128 = 320;
-
-const LINK: u128 = 160;
-
-const TABLE: u128 = 112;
-
-const ROW: u128 = 112;
 
 /// Two bills at most. Contracts see a list.
 #[derive(Drop)]
@@ -80,9 +74,9 @@ impl Bills {
 
 /// The bill of a row of so many bytes.
 pub(crate) fn row_bill(payer: Name, bytes: &Bytes) -> Bill
-    ensures { result ≡ (payer, 112 + length bytes.now) }
+    ensures { result ≡ (payer, row_size + length bytes.now) }
 {
-    (payer, ROW + bytes.len() as u128)
+    (payer, ROW_SIZE + bytes.len() as u128)
 }
 
 /// The row's bill, and with the first row of a table that of the table object.
@@ -90,7 +84,7 @@ pub(crate) fn with_opening(table: Option<TableRow>, payer: Name, row: Bill) -> B
     ensures { result ≡ opening_bills table payer ++ row ∷ [] }
 {
     match table {
-        None => Bills::two((payer, TABLE), row),
+        None => Bills::two((payer, TABLE_SIZE), row),
         Some(_) => Bills::one(row),
     }
 }
@@ -102,7 +96,7 @@ pub(crate) fn with_closing(table: Option<TableRow>, row: Bill) -> Bills
     match table {
         Some(table) => {
             if table.count <= 1 {
-                Bills::two((table.payer, TABLE), row)
+                Bills::two((table.payer, TABLE_SIZE), row)
             } else {
                 Bills::one(row)
             }
@@ -115,15 +109,18 @@ pub(crate) fn with_closing(table: Option<TableRow>, row: Bill) -> Bills
 pub(crate) fn of_account(name: Name, row: &AccountRow) -> Bills
     ensures { result ≡ account_bills (name, row.now) }
 {
-    let held = 10 * row.code.len() as u128 + row.abi.len() as u128;
-    Bills::two((row.payer, ACCOUNT), (name, held))
+    let held = CODE_FACTOR * row.code.len() as u128 + row.abi.len() as u128;
+    Bills::two((row.payer, ACCOUNT_SIZE), (name, held))
 }
 
 /// A permission's bill.
 pub(crate) fn of_permission(level: Level, row: &PermissionRow) -> Bills
     ensures { result ≡ permission_bills (level, row.now) }
 {
-    Bills::one((level.actor, PERMISSION + authority_size(&row.authority)))
+    Bills::one((
+        level.actor,
+        PERMISSION_SIZE + authority_size(&row.authority),
+    ))
 }
 
 /// The bills of the account as it stands.
@@ -169,7 +166,7 @@ pub(crate) fn of_link(account: Name, code: Name, action: Name, requirement: Opti
     ensures { result ≡ bills_at link_bills (record { account = account; code = code; action = action }) requirement }
 {
     match requirement {
-        Some(_) => Bills::one((account, LINK)),
+        Some(_) => Bills::one((account, LINK_SIZE)),
         None => Bills::none(),
     }
 }

@@ -6,8 +6,9 @@ ghost use Rattle.std.specs.FinMap.Entries.{find};
 ghost use Rattle.ante_undo.specs.Stack.{with_top, IsAbove};
 ghost use Rattle.ante_undo.specs.Entries.{changed};
 ghost use Rattle.ante_state.specs.Orders.{name_order, table_order, row_order, level_order, link_order, recent_order};
+ghost use Rattle.ante_rows.specs.Rows.{table_set, row_set};
 ghost use Rattle.ante_objects.specs.Objects.{with_accounts, with_permissions, with_links, with_recent, with_references};
-ghost use Rattle.ante_ram.specs.Usage.{used_of, with_share};
+ghost use Rattle.ante_ram.specs.Usage.{with_quota};
 ghost use Rattle.ante_ram.specs.declared.usage.RamFault.TheVariants.{OutOfMemory};
 ghost use Rattle.ante_store.specs.Applied.{in_rows, in_objects, with_usage};
 
@@ -60,7 +61,7 @@ pub(crate) fn put_row(
     row: PrimaryRow,
 ) -> Result<(), AllocError>
     requires above { IsAbove 1 parts.old }
-    ensures ok { OnOk result (parts.new ≡ with_top (in_rows (λ m. record { tables = m.tables; rows = changed row_order m.rows (record { table = table; primary = primary }) (Some row) }) parts.old.top) parts.old) }
+    ensures ok { OnOk result (parts.new ≡ with_top (in_rows (row_set table primary (Some row)) parts.old.top) parts.old) }
     ensures err { OnErr result (parts.new ≡ parts.old) }
 {
     let both = &mut parts.inner;
@@ -75,7 +76,7 @@ pub(crate) fn remove_row(
     primary: u64,
 ) -> Result<(), AllocError>
     requires above { IsAbove 1 parts.old }
-    ensures ok { OnOk result (parts.new ≡ with_top (in_rows (λ m. record { tables = m.tables; rows = changed row_order m.rows (record { table = table.now; primary = primary }) None }) parts.old.top) parts.old) }
+    ensures ok { OnOk result (parts.new ≡ with_top (in_rows (row_set table.now primary None) parts.old.top) parts.old) }
     ensures err { OnErr result (parts.new ≡ parts.old) }
 {
     let both = &mut parts.inner;
@@ -93,7 +94,7 @@ pub(crate) fn set_table(
     row: Option<TableRow>,
 ) -> Result<(), AllocError>
     requires above { IsAbove 1 parts.old }
-    ensures ok { OnOk result (parts.new ≡ with_top (in_rows (λ m. record { tables = changed table_order m.tables table row; rows = m.rows }) parts.old.top) parts.old) }
+    ensures ok { OnOk result (parts.new ≡ with_top (in_rows (table_set table row) parts.old.top) parts.old) }
     ensures err { OnErr result (parts.new ≡ parts.old) }
 {
     let both = &mut parts.inner;
@@ -188,7 +189,7 @@ pub(crate) fn put_quota(
     quota: i64,
 ) -> Result<(), RamFault>
     requires above { IsAbove 1 parts.old }
-    ensures ok { OnOk result (parts.new ≡ with_top (with_usage (with_share name_order account (used_of (find name_order account parts.old.top.usage)) quota parts.old.top.usage) parts.old.top) parts.old) }
+    ensures ok { OnOk result (parts.new ≡ with_top (with_usage (with_quota name_order account quota parts.old.top.usage) parts.old.top) parts.old) }
     ensures fault { IfErr result (λ fault. fault ≡ OutOfMemory) }
     ensures err { OnErr result (parts.new ≡ parts.old) }
 {

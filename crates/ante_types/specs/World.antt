@@ -5,6 +5,7 @@ use Rattle.ante_pack.specs.declared.names.Name.{Name}
 use Rattle.ante_pack.specs.declared.names.TableKey.{TableKey}
 use Rattle.ante_pack.specs.declared.authority.Level.{Level}
 use Rattle.ante_pack.specs.Packed.{authority}
+use Rattle.ante_state.specs.Billing.{account_size, code_factor, permission_size, link_size, table_size, row_size}
 use Rattle.ante_state.specs.declared.tables.RowKey.{RowKey}
 use Rattle.ante_state.specs.declared.tables.TableRow.{TableRow}
 use Rattle.ante_state.specs.declared.tables.PrimaryRow.{PrimaryRow}
@@ -30,19 +31,19 @@ pub record World : Type 0 where
 -- An entry's bills: who pays, and the size.
 
 abbrev pub account_bills : Name × AccountRow → List (Name × ℕ)
-account_bills e = (e.1.payer, 2720) ∷ (e.0, 10 * length e.1.code + length e.1.abi) ∷ []
+account_bills e = (e.1.payer, account_size) ∷ (e.0, code_factor * length e.1.code + length e.1.abi) ∷ []
 
 abbrev pub permission_bills : Level × PermissionRow → List (Name × ℕ)
-permission_bills e = (e.0.actor, 320 + length (authority.spell e.1.authority)) ∷ []
+permission_bills e = (e.0.actor, permission_size + length (authority.spell e.1.authority)) ∷ []
 
 abbrev pub link_bills : LinkKey × Name → List (Name × ℕ)
-link_bills e = (e.0.account, 160) ∷ []
+link_bills e = (e.0.account, link_size) ∷ []
 
 abbrev pub table_bills : TableKey × TableRow → List (Name × ℕ)
-table_bills e = (e.1.payer, 112) ∷ []
+table_bills e = (e.1.payer, table_size) ∷ []
 
 abbrev pub row_bills : RowKey × PrimaryRow → List (Name × ℕ)
-row_bills e = (e.1.payer, 112 + length e.1.bytes) ∷ []
+row_bills e = (e.1.payer, row_size + length e.1.bytes) ∷ []
 
 -- all bills
 abbrev pub bills : World → List (Name × ℕ)

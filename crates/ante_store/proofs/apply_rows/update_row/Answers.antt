@@ -1,9 +1,9 @@
 use Rattle.std.proofs.Common.{Some, [], ◌∷◌, refl, sym, ap, ◌∙◌}
 use Rattle.std.proofs.lemmas.Result.{err_from_is_err_and}
+use Rattle.ante_rows.specs.Rows.{row_set}
 use Rattle.ante_store.specs.Applied.{in_rows}
 use Rattle.ante_store.proofs.Made.{leads_as, leads_within, made_then, unpaid}
 use Rattle.ante_store.proofs.RowChanges.{update_leads}
-use Rattle.ante_store.proofs.RowsMade.{row_set}
 use Rattle.ante_store.proofs.apply_rows.update_row.Goals as goal
 
 pub rebill-requires-clause-within : goal.rebill-requires-clause-within

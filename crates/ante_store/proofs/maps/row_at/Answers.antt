@@ -8,5 +8,5 @@ use Rattle.ante_store.proofs.maps.row_at.Goals as goal
 pub returns : goal.returns
 returns c =
     c.row.ensures
-    ∙ sym (found_in table_order tables_total c.args.table.now c.args.primary c.rows_of.result.now.top.rows)
+    ∙ sym (found_in tables_total c.args.table.now c.args.primary c.rows_of.result.now.top.rows)
     ∙ ap (λ m. find row_order (record { table = c.args.table.now; primary = c.args.primary }) m.rows) c.rows_of.ensures
