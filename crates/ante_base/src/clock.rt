@@ -90,6 +90,7 @@ impl Clock for CountClock {
 }
 
 /// The system's clock. It tells 0 where it stands before 2000, or where it can't be read.
+#[derive(Drop)]
 pub struct SystemClock<'a, R> {
     rt: &'a R,
 }
