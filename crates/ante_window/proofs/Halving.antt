@@ -1,5 +1,5 @@
 -- A share that can be split for so many readers.
-use Rattle.std.proofs.Common.{ℕ, zero, suc, ◌*◌, ◌^◌, ◌≤◌, arith}
+use Rattle.std.proofs.Common.{ℕ, zero, suc, ◌^◌, ◌≤◌, arith}
 
 some_power : (n : ℕ) → 1 ≤ 2 ^ n
 some_power zero = omega arith

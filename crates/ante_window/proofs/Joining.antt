@@ -1,5 +1,5 @@
 -- What readers bring back together, and what it says once the pool is closed.
-use Rattle.std.proofs.Common.{◌≡◌, ℕ, ◌+◌, ◌<◌, ◌≤◌, ◌⊎◌, ◌≢◌, min, Bool, true, false, ◌||◌, nat_eq, List, [], ◌∷◌, ◌++◌, map, length, slice_index_or, All, Option, Some, None, IfSome, inl, inr, ⊎_elim, true≢false, subst, sym, ap, refl, ◌∙◌, arith}
+use Rattle.std.proofs.Common.{◌≡◌, ℕ, ◌≤◌, ◌≢◌, Bool, true, false, ◌||◌, nat_eq, List, [], ◌∷◌, ◌++◌, map, length, slice_index_or, All, Option, Some, None, IfSome, inl, inr, ⊎_elim, true≢false, subst, sym, ap, refl, ◌∙◌, arith}
 use Rattle.std.specs.Option.{option_or}
 use Rattle.std.specs.List.{AllByRecursion}
 use Rattle.std.proofs.lemmas.List.{map-append}
@@ -8,13 +8,12 @@ use Rattle.std.proofs.lemmas.List.Elements.{All-head, All-tail}
 use Rattle.ante_pool.specs.declared.words.Known.{Known}
 use Rattle.ante_pool.specs.declared.PoolEnd.{PoolEnd}
 use Rattle.ante_pool.specs.Seats.{joined, times}
-use Rattle.ante_pool.specs.Standing.{below}
 use Rattle.ante_pool.specs.Pools.{IsTruth}
 use Rattle.ante_window.specs.declared.outcome.Outcome.{Outcome}
 use Rattle.ante_window.specs.declared.outcome.Outcome.TheVariants.{Done, Back, OutOfMemory}
 use Rattle.ante_window.specs.declared.outcome.Entry.{Entry}
 use Rattle.ante_window.specs.Watching.{has, IsLate, IsOver}
-use Rattle.ante_window.specs.Reads.{IsOutcome, TellsOutcome, IsGiven, IsTold, IsRun, IsBrought, IsReport}
+use Rattle.ante_window.specs.Reads.{IsOutcome, TellsOutcome, IsGiven, IsTold, IsBrought, IsReport}
 use Rattle.ante_window.proofs.Running.{all_more}
 
 or_right : (b c : Bool) → c ≡ true → (b || c) ≡ true

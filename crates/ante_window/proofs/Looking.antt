@@ -1,10 +1,10 @@
 -- What looks at a reader's stop add up to.
-use Rattle.std.proofs.Common.{◌≡◌, ℕ, ◌<◌, ◌≤◌, ◌⊎◌, Bool, true, false, ◌||◌, nat_eq, List, [], ◌∷◌, ◌++◌, Option, Some, None, IfSome, Result, Ok, Err, subst, sym, ap, refl, ◌∙◌, ⊎_elim, true≢false, append_assoc, append-nil, arith}
+use Rattle.std.proofs.Common.{◌≡◌, ℕ, ◌≤◌, ◌⊎◌, Bool, true, false, ◌||◌, nat_eq, List, [], ◌∷◌, ◌++◌, Option, Some, None, IfSome, Result, Ok, Err, subst, sym, ap, refl, ◌∙◌, ⊎_elim, true≢false, append_assoc, append-nil, arith}
 use Rattle.std.proofs.lemmas.Bool.Decides.{nat_tests}
 use Rattle.ante_base.specs.Stops.{Looks}
 use Rattle.ante_port.specs.declared.ReadEnd.{ReadEnd}
 use Rattle.ante_port.specs.declared.ReadEnd.TheVariants.{Done as Replied, Cut}
-use Rattle.ante_port.specs.Reading.{EndsAs, ReadsTo}
+use Rattle.ante_port.specs.Reading.{ReadsTo}
 use Rattle.ante_pool.specs.declared.words.Known.{Known}
 use Rattle.ante_window.specs.declared.pool_stop.PoolStop.{PoolStop}
 use Rattle.ante_window.specs.Watching.{LooksAt, has, IsLate, Watches}

@@ -1,4 +1,4 @@
-use Rattle.std.proofs.Common.{rules, ◌≡◌, ◌<◌, length, ◌∙◌, ap, arith}
+use Rattle.std.proofs.Common.{◌<◌, length, ◌∙◌, ap, arith}
 use Rattle.ante_pool.specs.Pools.{PoolView}
 use Rattle.ante_window.proofs.Running.{watch_at, early_at, run_over, run_next}
 use Rattle.ante_window.proofs.reader.read_next.Goals as goal
