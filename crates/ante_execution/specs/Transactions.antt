@@ -19,6 +19,7 @@ use Rattle.ante_types.specs.declared.failure.Failure.{Failure}
 use Rattle.ante_types.specs.declared.failure.Failure.TheVariants as failure
 use Rattle.ante_types.specs.declared.trace.ActionTrace.{ActionTrace}
 use Rattle.ante_types.specs.declared.trace.Trace.{Trace}
+use Rattle.ante_types.specs.Limits.{most_transaction_bytes, most_transaction_steps}
 use Rattle.ante_types.specs.World.{World, used}
 use Rattle.ante_store.specs.declared.change.Change.TheVariants as change
 use Rattle.ante_store.specs.Changes.{after}
@@ -30,13 +31,6 @@ use Rattle.ante_execution.specs.Refusals.{first_refusal}
 use Rattle.ante_execution.specs.Runs.{Codes}
 
 -- ---- limits
-
-abbrev pub step_limit : ℕ
-step_limit = 10000000
-
--- bytes of a transaction, with its signatures
-abbrev pub size_limit : ℕ
-size_limit = 1500000
 
 -- bytes of a signature
 abbrev pub most_signature : ℕ
@@ -51,7 +45,7 @@ form_refusal size t =
     else if not (length t.context_free_actions == 0) then Some (unsupported (codes "context_free_actions"))
     else if not (t.delay_sec == 0) then Some (unsupported (codes "delay_sec"))
     else if not (length t.extensions == 0) then Some (unsupported (codes "extensions"))
-    else if nat_lt size_limit size then Some failure.TooBig
+    else if nat_lt most_transaction_bytes size then Some failure.TooBig
     else None
 
 abbrev pub has_no_level : Action → Bool
@@ -159,24 +153,24 @@ with_recent t packed w = after (change.SetRecent t.expiration (sha256 packed) tr
 
 module _ (head : Head) (t : Transaction) (packed : List ℕ) (w : World) where
   abbrev pub refused_as : Failure → (left : ℕ) → List ActionTrace → Done
-  refused_as f left traces = record { trace = trace_with 0 head packed (Some f) (step_limit - left) traces; world = w }
+  refused_as f left traces = record { trace = trace_with 0 head packed (Some f) (most_transaction_steps - left) traces; world = w }
 
   abbrev pub finished : Option Failure → Going → Done
   finished (Some f) g = refused_as f g.left g.traces
-  finished None g = record { trace = trace_with 0 head packed None (step_limit - g.left) g.traces; world = with_recent t packed g.world }
+  finished None g = record { trace = trace_with 0 head packed None (most_transaction_steps - g.left) g.traces; world = with_recent t packed g.world }
 
   abbrev pub acted : Result Going Failed → Done
   acted (Err f) = refused_as f.failure f.left f.traces
   acted (Ok g) = finished (memory_refusal w g.world) g
 
 abbrev pub fresh : World → Going
-fresh w = record { world = w; left = step_limit; traces = [] }
+fresh w = record { world = w; left = most_transaction_steps; traces = [] }
 
 abbrev pub writing_scene : (slot : ℕ) → (packed : List ℕ) → Scene
 writing_scene slot packed = record { mode = mode.Writing; slot = slot; packed = packed }
 
 abbrev pub transacted : Codes → Option Failure → BlockInfo → World → Transaction → (packed : List ℕ) → Done
-transacted codes (Some f) info w t packed = refused_as (head_of info) t packed w f step_limit []
+transacted codes (Some f) info w t packed = refused_as (head_of info) t packed w f most_transaction_steps []
 transacted codes None info w t packed = acted (head_of info) t packed w (apply_all codes (writing_scene info.slot packed) t.actions (fresh w))
 
 -- A transaction in the block that is being made, at position 0. The chain's id is the digest of the packed genesis.
@@ -203,8 +197,8 @@ abbrev pub reading_scene : (slot : ℕ) → (packed : List ℕ) → Scene
 reading_scene slot packed = record { mode = mode.Reading; slot = slot; packed = packed }
 
 abbrev pub read : (position : ℕ) → Head → (packed : List ℕ) → Result Going Failed → Trace
-read position head packed (Ok g) = trace_with position head packed None (step_limit - g.left) g.traces
-read position head packed (Err f) = trace_with position head packed (Some f.failure) (step_limit - f.left) f.traces
+read position head packed (Ok g) = trace_with position head packed None (most_transaction_steps - g.left) g.traces
+read position head packed (Err f) = trace_with position head packed (Some f.failure) (most_transaction_steps - f.left) f.traces
 
 abbrev pub read_unless : Codes → Option Failure → World → (position : ℕ) → Head → (slot : ℕ) → Transaction → (packed : List ℕ) → Trace
 read_unless codes (Some f) w position head slot t packed = trace_with position head packed (Some f) 0 []

@@ -12,7 +12,3 @@ line_limit = 33554432
 -- how many characters are read of an input: a line of the greatest length, its newline, and a character too many
 abbrev pub input_limit : ℕ
 input_limit = 33554434
-
--- how many packed bytes a transaction may have
-abbrev pub trx_limit : ℕ
-trx_limit = 1500000

@@ -11,10 +11,11 @@ use Rattle.ante_types.specs.declared.trace.ActionTrace.{ActionTrace}
 use Rattle.ante_types.specs.declared.trace.Trace.{Trace}
 use Rattle.ante_types.specs.declared.failure.Failure.{Failure}
 use Rattle.ante_types.specs.declared.failure.Failure.TheVariants.{NoAction, Unsupported, TooBig, HasAuthorization, UnknownAccount, WriteRefused}
-use Rattle.ante_types.specs.Genesis.{builtin_authority, builtin_genesis, eosio, genesis_head}
+use Rattle.ante_types.specs.Genesis.{builtin_genesis, eosio}
+use Rattle.ante_types.specs.GenesisWorld.{genesis_world}
 use Rattle.ante_types.specs.World.{World}
 use Rattle.ante_types.specs.Jobs.{Job}
-use Rattle.ante_node.specs.Limits.{trx_limit}
+use Rattle.ante_types.specs.Limits.{most_transaction_bytes}
 
 -- ---- the world
 
@@ -22,26 +23,9 @@ use Rattle.ante_node.specs.Limits.{trx_limit}
 abbrev pub is_there : World → Name → Bool
 is_there world name = list_any (λ e. name.0 == e.0.0) world.accounts
 
-abbrev permission_name : List ℕ → Name
-permission_name text = record { 0 = name_number text }
-
-abbrev no_name : Name
-no_name = record { 0 = 0 }
-
--- the world of the built-in genesis: the system's account with its two permissions, and genesis itself as a reference
+-- the world of the built-in genesis
 abbrev pub builtin_world : World
-builtin_world = record {
-  accounts = (eosio, record { payer = eosio; privileged = true; code = []; abi = [] }) ∷ [];
-  permissions =
-      (record { actor = eosio; permission = permission_name (codes "active") }, record { parent = permission_name (codes "owner"); authority = builtin_authority })
-      ∷ (record { actor = eosio; permission = permission_name (codes "owner") }, record { parent = no_name; authority = builtin_authority }) ∷ [];
-  links = [];
-  quotas = [];
-  recent = [];
-  references = (1, (genesis_head builtin_genesis).id) ∷ [];
-  tables = [];
-  rows = [];
-}
+builtin_world = genesis_world builtin_genesis
 
 -- ---- the checks
 
@@ -73,7 +57,7 @@ check_failure world size t =
     else if not (length t.context_free_actions == 0) then Some (Unsupported (codes "context_free_actions"))
     else if not (t.delay_sec == 0) then Some (Unsupported (codes "delay_sec"))
     else if not (length t.extensions == 0) then Some (Unsupported (codes "extensions"))
-    else if nat_lt trx_limit size then Some TooBig
+    else if nat_lt most_transaction_bytes size then Some TooBig
     else account_failure world t.actions
 
 -- ---- the runs

@@ -8,6 +8,3 @@ pub const LINE_LIMIT: usize = 33_554_432;
 
 /// How many characters are read of an input: a line of the greatest length, its newline, and a character too many.
 pub const INPUT_LIMIT: usize = 33_554_434;
-
-/// How many packed bytes a transaction may have.
-pub const TRX_LIMIT: usize = 1_500_000;

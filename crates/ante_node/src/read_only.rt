@@ -8,8 +8,8 @@ ghost use Rattle.ante_types.specs.declared.failure.Failure.TheVariants.{Unsuppor
 ghost use Rattle.std.specs.List.{position};
 ghost use Rattle.ante_node.specs.ReadOnly.{account_failure, builtin_world, check_failure, first_where, has_level, is_native, is_there, native_names, read_only, run_of, runs_from, unknown_account, write_refused};
 
-use crate::limits::TRX_LIMIT;
 use ante_pack::{Bytes, Name, Seq};
+use ante_types::limits::MOST_TRANSACTION_BYTES;
 use ante_types::{Action, ActionTrace, EOSIO, Failure, Head, Label, ReadJob, Trace, Transaction, trx_id};
 use std::alloc::{AllocError, Global};
 
@@ -33,6 +33,7 @@ fn is_system(name: Name) -> bool
 }
 
 /// The system's account is the only one.
+#[tactic(auto, unfolding(ante_types::specs::Genesis::builtin_genesis))]
 fn is_there(name: Name) -> bool
     ensures { result ≡ is_there builtin_world name }
 {
@@ -124,7 +125,7 @@ fn check_failure(
     if trx.extensions.len() != 0 {
         return unsupported(alloc, b"extensions");
     }
-    if size > TRX_LIMIT {
+    if size > MOST_TRANSACTION_BYTES {
         return Ok(Some(Failure::TooBig));
     }
     Ok(account_failure(trx.actions.as_slice()))

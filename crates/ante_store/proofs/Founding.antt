@@ -19,7 +19,8 @@ use Rattle.ante_types.specs.declared.chain.GenesisAccount.{GenesisAccount}
 use Rattle.ante_store.specs.declared.change.Change.TheVariants as change
 use Rattle.ante_store.specs.Changes.{after}
 use Rattle.ante_store.specs.Applied.{IsMade}
-use Rattle.ante_store.specs.Genesis.{owner, active, no_name, account_of, permission_of, permissions_of, accounts_of, world_with, joined, Rises, Shows}
+use Rattle.ante_types.specs.GenesisWorld.{owner, active, no_name, account_of, permission_of, permissions_of, accounts_of, world_with}
+use Rattle.ante_store.specs.Genesis.{joined, Rises, Shows}
 use Rattle.ante_store.specs.declared.parts.Maps.{Maps}
 use Rattle.ante_store.specs.Worlds.{world_of, IsBilled}
 use Rattle.ante_store.proofs.KeyOrders.{names_total, levels_total}

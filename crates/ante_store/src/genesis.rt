@@ -4,7 +4,8 @@ ghost use Rattle.ante_undo.specs.Stack.{opened, with_top, IsAbove};
 ghost use Rattle.ante_types.specs.Chain as forms;
 ghost use Rattle.ante_types.specs.Genesis.{eosio, genesis_head};
 ghost use Rattle.ante_store.specs.declared.change.Change.TheVariants as change;
-ghost use Rattle.ante_store.specs.Genesis.{account_of, genesis_world, joined, Rises, Shows};
+ghost use Rattle.ante_types.specs.GenesisWorld.{account_of, genesis_world};
+ghost use Rattle.ante_store.specs.Genesis.{joined, Rises, Shows};
 ghost use Rattle.ante_store.specs.Worlds.{world_of, IsBilled};
 ghost use Rattle.ante_store.specs.Applied.{IsMade};
 
@@ -12,7 +13,7 @@ use crate::apply::apply;
 use crate::change::Change;
 use crate::parts::{Parts, no_parts};
 use crate::store::Store;
-use ante_pack::{Authority, Bytes, Digest, Level, Name, Seq};
+use ante_pack::{Authority, Bytes, Digest, Level, Name};
 use ante_state::{AccountRow, PermissionRow};
 use ante_types::{EOSIO, Genesis, GenesisAccount, Header, block_id};
 use sha2::{Digest as _, Sha256};
@@ -115,7 +116,7 @@ fn set_permission(
     ensures ok { OnOk result (IsMade (change.SetPermission level (Some (record { parent = parent; authority = authority.now }))) parts.old.top parts.new.top) }
     ensures top { parts.new ≡ with_top parts.new.top parts.old }
 {
-    let authority = copy_authority(alloc, authority)?;
+    let authority = authority.try_clone(alloc)?;
     let row = PermissionRow { parent, authority };
     make(
         alloc,
@@ -130,7 +131,7 @@ fn set_permission(
 fn account_row(alloc: Global, account: &GenesisAccount) -> Result<AccountRow, AllocError>
     ensures { IfOk result (λ row. row ≡ (account_of account.now).1) }
 {
-    let code = Bytes::from_slice(alloc, account.code.as_slice())?;
+    let code = account.code.try_clone(alloc)?;
     Ok(AccountRow {
         payer: account.name,
         privileged: is_system(account.name),
@@ -145,27 +146,6 @@ fn is_system(name: Name) -> bool
     ensures { result ≡ (name.0 == eosio.0) }
 {
     name == EOSIO
-}
-
-fn copy_authority(alloc: Global, authority: &Authority) -> Result<Authority, AllocError>
-    ensures { IfOk result (λ copy. copy ≡ authority.now) }
-{
-    let keys = copy_items(alloc, &authority.keys)?;
-    let accounts = copy_items(alloc, &authority.accounts)?;
-    let waits = copy_items(alloc, &authority.waits)?;
-    Ok(Authority {
-        threshold: authority.threshold,
-        keys,
-        accounts,
-        waits,
-    })
-}
-
-fn copy_items<T: Copy>(alloc: Global, items: &Seq<T>) -> Result<Seq<T>, AllocError>
-    ensures { IfOk result (λ copy. copy ≡ items.now) }
-{
-    let copy = Vec::from_slice(alloc, items.as_slice())?;
-    Ok(Seq::from_vec(copy))
 }
 
 // The id of genesis as block 1.

@@ -10,6 +10,7 @@ mod forms;
 mod ids;
 mod job;
 mod label;
+pub mod limits;
 mod rendering;
 mod trace;
 
