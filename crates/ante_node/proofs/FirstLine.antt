@@ -1,9 +1,9 @@
 -- The first line of an input, and an input of which only a front was read.
-use Rattle.std.proofs.Common.{◌≡◌, ℕ, ◌+◌, ◌%◌, ◌<◌, ◌≤◌, Bool, true, false, cond, not, eqb, ltb, List, [], ◌++◌, length, take, Option, Some, None, Result, Ok, Err, refl, sym, ap, subst, ◌∙◌, arith, inl, inr}
+use Rattle.std.proofs.Common.{◌≡◌, ℕ, ◌+◌, ◌%◌, ◌<◌, ◌≤◌, Bool, true, false, cond, not, eqb, ltb, List, [], ◌++◌, length, take, Option, Some, None, Result, Ok, Err, refl, sym, ap, ◌∙◌, arith, inl, inr}
 use Rattle.std.specs.Prelude.{◌⊎◌, slice_index, IsTrue, IfOk}
 use Rattle.std.specs.Io.KnownBytes.{Consumes, IsAtEnd}
 use Rattle.std.specs.List.{position_or_len, before_first, AllPass}
-use Rattle.std.proofs.lemmas.Bool.{cases_lt, cases_eq, lt-ltb, le-ltb, eq-eqb, ne_eqb}
+use Rattle.std.proofs.lemmas.Bool.{cases_lt, cases_eq, lt-ltb, eq-eqb, ne_eqb}
 use Rattle.std.proofs.lemmas.List.{append-nil, length-append, length-take, take-append-le, get_or-take}
 use Rattle.std.proofs.lemmas.List.Folds.{prefix_len-append}
 use Rattle.std.proofs.lemmas.List.Sums.{prefix_len-le-length, position_or_len_is}
@@ -15,7 +15,7 @@ use Rattle.ante_node.specs.declared.fault.InputFault.{InputFault}
 use Rattle.ante_node.specs.declared.fault.InputKind.TheVariants as kinds
 use Rattle.ante_types.specs.Jobs.{Job}
 use Rattle.ante_node.specs.Limits.{item_limit, line_limit, input_limit}
-use Rattle.ante_node.specs.Lines.{TextLine, IsHexFault, bytes_in, decoded, hex_place, is_newline, job_in, line_at, line_end}
+use Rattle.ante_node.specs.Lines.{TextLine, IsHexFault, decoded, hex_place, is_newline, job_in, line_at, line_end}
 use Rattle.ante_base.specs.declared.failure.ReadFailure.{ReadFailure}
 use Rattle.ante_base.specs.declared.failure.ReadFailure.TheVariants as reads
 use Rattle.ante_node.specs.Requests.{◌>>=◌, Answers, Tells, input_fault, of_source}

@@ -1,4 +1,4 @@
-use Rattle.std.proofs.Common.{◌≡◌, ℕ, map, sym, subst, inl}
+use Rattle.std.proofs.Common.{◌≡◌, ℕ, map, subst, inl}
 use Rattle.std.specs.Prelude.{◌⊎◌, string_bytes}
 use Rattle.ante_node.specs.declared.fault.RequestFault.TheVariants.{Words}
 use Rattle.ante_node.specs.declared.fault.NodeFault.TheVariants as faults
