@@ -1,5 +1,5 @@
 -- How far a clock that counts can go.
-use Rattle.std.proofs.Common.{ℕ, ◌*◌, ◌/◌, ◌≤◌, ◌<◌, le_trans, le_of_lt, mul-le-mul_right}
+use Rattle.std.proofs.Common.{ℕ, ◌*◌, ◌/◌, ◌≤◌, le_trans, mul-le-mul_right}
 use Rattle.std.proofs.Math.Nat.{div-mul-le_self}
 
 -- so many ticks fit into the span
