@@ -33,7 +33,6 @@ fn is_system(name: Name) -> bool
 }
 
 /// The system's account is the only one.
-#[tactic(auto, unfolding(ante_types::specs::Genesis::builtin_genesis))]
 fn is_there(name: Name) -> bool
     ensures { result ≡ is_there builtin_world name }
 {
