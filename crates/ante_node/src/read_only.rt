@@ -10,7 +10,9 @@ ghost use Rattle.ante_node.specs.ReadOnly.{account_failure, builtin_world, check
 
 use ante_pack::{Bytes, Name, Seq};
 use ante_types::limits::MOST_TRANSACTION_BYTES;
-use ante_types::{Action, ActionTrace, EOSIO, Failure, Head, Label, ReadJob, Trace, Transaction, trx_id};
+use ante_types::{
+    Action, ActionTrace, EOSIO, Failure, Head, Label, ReadJob, Trace, Transaction, trx_id,
+};
 use std::alloc::{AllocError, Global};
 
 /// The actions that the system's account does itself: newaccount, setcode, setabi, updateauth, deleteauth, linkauth and
