@@ -4,10 +4,6 @@ use Rattle.std.specs.declared.cmp.Ordering.{Ordering}
 use Rattle.std.specs.Ordering.{is_gt}
 
 module _ {K V : Type 0} where
-  abbrev pub first_entry : List (K × V) → Option (K × V)
-  first_entry [] = None
-  first_entry (e ∷ es) = Some e
-
   -- the entries still to come after a key, or all of them
   abbrev pub past : (K → K → Ordering) → Option K → List (K × V) → List (K × V)
   past cmp None m = m

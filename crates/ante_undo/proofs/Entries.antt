@@ -5,7 +5,7 @@ use Rattle.std.specs.Cmp.{IsTotalOrder, alike_right}
 use Rattle.std.specs.FinMap.Entries.{by_order, put, find, is_sorted, below_all, is_sorted-where_key}
 use Rattle.ante_undo.specs.Entries.{with_entry, without_key, changed, entry_at}
 
-both : (a b : Bool) → T a → T b → T (a && b)
+pub both : (a b : Bool) → T a → T b → T (a && b)
 both true b p q = q
 both false b p q = p
 
@@ -22,7 +22,7 @@ less Less p = refl
 less Equal p = absurd p
 less Greater p = absurd p
 
-equal : (o : Ordering) → T (is_eq o) → o ≡ Equal
+pub equal : (o : Ordering) → T (is_eq o) → o ≡ Equal
 equal Less p = absurd p
 equal Equal p = refl
 equal Greater p = absurd p

@@ -1,320 +1,343 @@
--- The layout that two lists hold, after each call has changed them.
-use Rattle.std.proofs.Common.{◌≡◌, ℕ, suc, ◌+◌, ◌-◌, ◌^◌, ◌<◌, ◌≤◌, List, [], ◌∷◌, ◌++◌, take, drop, get_or, length, Option, Some, None, option_map, IsNone, MatchOption, true≢false, insert, remove, refl, sym, ap, ap₂, subst, ◌∙◌, Ordering, arith, append_assoc, append-nil, length-append, length-take-le, length-drop, take-take, take-append-drop}
-use Rattle.std.proofs.lemmas.List.{take_at, drop_at, drop-take, drop-drop, drop_all, get_or-take, length-map}
-use Rattle.std.proofs.Math.Seq.{take-length, drop-length}
-use Rattle.std.proofs.lemmas.Grind.{get_or_default_zero}
-use Rattle.ante_undo.specs.Layout.{Layout, laid_out, Stands, IsHeld, HasShelf, stack_shown, shelf_shown, ends_of, kept_sessions, changes_below, marks_below}
-use Rattle.ante_undo.specs.Stack.{with_top, begun, committed, without_shelf, under_top, IsSquashed, IsShelved, IsBroughtBack, IsUnshelved, IsAbove}
+-- What slots and logs stand for, and what holds of them, after each call has changed them.
+use Rattle.std.proofs.Common.{◌≡◌, ℕ, suc, ◌+◌, ◌-◌, ◌^◌, ◌<◌, ◌≤◌, Bool, true, false, true≢false, cond, T, List, [], ◌∷◌, ◌++◌, take, drop, length, Option, Some, None, IsNone, IsSome, IfSome, option_map, refl, sym, ap, subst, ◌∙◌, Ordering, Equal, is_eq, append_assoc, take-append-drop, arith}
+use Rattle.std.proofs.lemmas.List.{take_at, drop_at}
+use Rattle.std.specs.Ordering.{eq_by_cmp}
+use Rattle.std.specs.Cmp.{IsTotalOrder}
+use Rattle.std.specs.List.Sorted.{IsStrictlySortedBy}
+use Rattle.std.specs.Map.{keys_of}
+use Rattle.std.specs.FinMap.{IsAntisymmetric}
+use Rattle.ante_undo.specs.declared.slots.Slot.{Slot}
+use Rattle.ante_undo.specs.declared.logs.Aside.{Aside}
 use Rattle.ante_undo.specs.Entries.{changed}
-use Rattle.ante_undo.specs.Changes.{applied, map_at}
-use Rattle.ante_undo.proofs.Shelved.{moved, end_within}
-use Rattle.ante_undo.proofs.Steps.{older_marks, newest_mark, put_aside, brought_back, alone, recorded_stands, recorded_shown, begun_stands, begun_shown, mark_fits, under_shown, undone_stands, undone_shown, squashed_stands, squashed_shown, committed_stands, committed_shown, put_aside_stands, put_aside_shown, brought_back_stands, brought_back_shown, alone_stands}
+use Rattle.ante_undo.specs.Stack.{Stack, Shelf, with_top, begun, committed, newest, without_newest, maps_of, without_shelf, under_top, IsSquashed, IsShelved, IsBroughtBack, IsUnshelved, IsAbove, IsSound}
+use Rattle.ante_undo.specs.Slots.{live, value_at, mentions_at, Sets}
+use Rattle.ante_undo.specs.Logs.{one_if, total, named_in, named_in_all, taken_back, taken_back_all, maps_under, maps_over, AddsEntry, AddsLog, IsTidy, AreMoved, Releases}
+use Rattle.ante_undo.specs.Kept.{below_of, shelved_of, HasRoom, shelf_shown, stack_shown, IsKept}
+use Rattle.ante_undo.proofs.Entries.{equal}
+use Rattle.ante_undo.proofs.Live.{values_set, mentions_set, tidy_set, find_live, sorted_live, live_changed, changed_back}
+use Rattle.ante_undo.proofs.Back.{total_append, length_append, named_append, named_append_all, back_append, back_append_all, under_append, under_last, length_under, length_over, named_few_all}
 
-module _ {X : Type 0} (xs : List X) where
-  -- an element goes to the end of the part in front of a place
-  module _ (n : ℕ) (x : X) (within : n ≤ length xs) where
-    pub inserted_front : take (n + 1) (insert xs n x) ≡ take n xs ++ x ∷ []
-    inserted_front =
-        ap (take (n + 1)) (sym (append_assoc (take n xs) (x ∷ []) (drop n xs)))
-        ∙ take_at (take n xs ++ x ∷ []) (drop n xs) (n + 1) (omega (arith, length-append (take n xs) (x ∷ []), length-take-le n xs within))
+pub same_stack : {M : Type 0} {u u2 : List M} {t t2 : M} {r r2 : ℕ} {s s2 : Option (Shelf M)} → u ≡ u2 → t ≡ t2 → r ≡ r2 → s ≡ s2 →
+    ◌≡◌ {A = Stack M} (record { under = u; top = t; revision = r; shelf = s }) (record { under = u2; top = t2; revision = r2; shelf = s2 })
+same_stack u t r s = λ i. record { under = u i; top = t i; revision = r i; shelf = s i }
 
-    pub inserted_back : drop (n + 1) (insert xs n x) ≡ drop n xs
-    inserted_back =
-        ap (drop (n + 1)) (sym (append_assoc (take n xs) (x ∷ []) (drop n xs)))
-        ∙ drop_at (take n xs ++ x ∷ []) (drop n xs) (n + 1) (omega (arith, length-append (take n xs) (x ∷ []), length-take-le n xs within))
+module _ {K V : Type 0} (cmp : K → K → Ordering) where
+  -- the stack as the newest session's log has it
+  pub split_shown : (es : List (K × Slot V)) (front : List (List (K × Option V))) (log : List (K × Option V)) (shelf : Option (Aside K V)) (r : ℕ) →
+      stack_shown cmp es (front ++ log ∷ []) shelf r
+      ≡ record { under = maps_under cmp (taken_back cmp (live es) log) (below_of shelf ++ front) ++ taken_back cmp (live es) log ∷ []; top = live es; revision = r; shelf = shelf_shown cmp (taken_back_all cmp (taken_back cmp (live es) log) front) (r - (length front + 1)) shelf }
+  split_shown es front log shelf r =
+      same_stack
+      (ap (maps_under cmp (live es)) (sym (append_assoc (below_of shelf) front (log ∷ []))) ∙ under_last cmp (live es) (below_of shelf ++ front) log)
+      refl
+      refl
+      (ap (λ m. shelf_shown cmp m (r - length (front ++ log ∷ [])) shelf) (back_append_all cmp (live es) front (log ∷ []))
+      ∙ ap (λ n. shelf_shown cmp (taken_back_all cmp (taken_back cmp (live es) log) front) (r - n) shelf) (length_append front (log ∷ [])))
 
-    pub inserted_length : length (insert xs n x) ≡ length xs + 1
-    inserted_length = omega (arith, length-append (take n xs) (x ∷ drop n xs), length-take-le n xs within, length-drop n xs)
+  module _ (es : List (K × Slot V)) (opened : List (List (K × Option V))) (changes r : ℕ) where
+    -- sessions that stand above the shelf are among the open ones
+    pub open_above : (shelf : Option (Aside K V)) (n : ℕ) → IsKept cmp es opened shelf changes r → n ≤ length (maps_under cmp (live es) (below_of shelf ++ opened)) → IsAbove n (stack_shown cmp es opened shelf r) → n ≤ length opened
+    open_above None n h some above = let long = length_under cmp (live es) opened in omega arith
+    open_above (Some s) n h some above = let within = h.sessions in let up : r - length opened + n ≤ r = above in omega arith
 
-  -- the elements from one place to another are taken out
-  module _ (from to : ℕ) (order : from ≤ to) (within : to ≤ length xs) where
-    pub cut_front : take from (take from xs ++ drop to xs) ≡ take from (take to xs)
-    cut_front = take_at (take from xs) (drop to xs) from (length-take-le from xs (omega arith)) ∙ sym (take-take from to xs order)
+    pub closed_off : (shelf : Option (Aside K V)) → opened ≡ [] → IsAbove 1 (stack_shown cmp es opened shelf r) → shelf ≡ None
+    closed_off None none above = refl
+    closed_off (Some s) none above = let up : r - length opened + 1 ≤ r = above in let zero = ap length none in absurd (omega arith)
 
-    pub cut_back : drop from (take from xs ++ drop to xs) ≡ drop to xs
-    cut_back = drop_at (take from xs) (drop to xs) from (length-take-le from xs (omega arith))
+    pub no_shelf : (shelf : Option (Aside K V)) → IsNone (shelf_shown cmp (taken_back_all cmp (live es) opened) (r - length opened) shelf) → shelf ≡ None
+    no_shelf None e = refl
+    no_shelf (Some s) e = absurd (true≢false e)
 
-    pub cut_length : length (take from xs ++ drop to xs) ≡ from + (length xs - to)
-    cut_length = omega (arith, length-append (take from xs) (drop to xs), length-take-le from xs (omega arith), length-drop to xs)
+    -- what is named is counted
+    pub open_named : (shelf : Option (Aside K V)) → IsKept cmp es opened shelf changes r → (q : K) → named_in_all cmp q opened ≤ mentions_at cmp q es
+    open_named shelf h q = let counted = h.counted q in omega arith
 
-module _ {K V : Type 0} where
-  pub same_layout : {c c2 s s2 : List (K × Option V)} {m m2 t t2 : List ℕ} (r : ℕ) (o : Option ℕ) → c ≡ c2 → s ≡ s2 → m ≡ m2 → t ≡ t2 →
-      ◌≡◌ {A = Layout K V} (record { changes = c; shelved = s; marks = m; shelved_marks = t; revision = r; shelf = o }) (record { changes = c2; shelved = s2; marks = m2; shelved_marks = t2; revision = r; shelf = o })
-  same_layout r o c s m t = λ i. record { changes = c i; shelved = s i; marks = m i; shelved_marks = t i; revision = r; shelf = o }
+    pub few_named : (shelf : Option (Aside K V)) → IsKept cmp es opened shelf changes r → (q : K) → mentions_at cmp q es < 2 ^ 63
+    few_named shelf h q =
+        let counted = h.counted q in
+        let few = h.few in
+        let bound = h.bound in
+        let below = named_few_all cmp q (below_of shelf) in
+        let above = named_few_all cmp q opened in
+        let aside = named_few_all cmp q (shelved_of shelf) in
+        omega arith
 
-  module _ (log : List (K × Option V)) (standing : ℕ) (marks : List ℕ) (sessions revision : ℕ) (shelf : Option ℕ) (h : IsHeld log standing marks sessions revision shelf) where
-    module _ (c : K × Option V) where
-      recorded : laid_out (insert log standing c) (standing + 1) marks sessions revision shelf
-          ≡ moved (take standing log ++ c ∷ []) (take sessions marks) revision (laid_out log standing marks sessions revision shelf)
-      recorded = same_layout revision shelf (inserted_front log standing c h.changes_within) (inserted_back log standing c h.changes_within) refl refl
+  module _ (o : IsTotalOrder cmp) (exact : IsAntisymmetric cmp) (es fs : List (K × Slot V)) (s : IsStrictlySortedBy cmp (keys_of es)) (t : IsStrictlySortedBy cmp (keys_of fs)) where
+    counted_more : (k : K) (q : K) → cond (eq_by_cmp cmp k q) (mentions_at cmp k es + 1) (mentions_at cmp q es) ≡ mentions_at cmp q es + one_if (eq_by_cmp cmp k q)
+    counted_more k q =
+        elim (eq_by_cmp cmp k q) as (λ b. eq_by_cmp cmp k q ≡ b → cond b (mentions_at cmp k es + 1) (mentions_at cmp q es) ≡ mentions_at cmp q es + one_if b) [
+          | true ↦ λ e. ap (λ x. mentions_at cmp x es + 1) (exact k q (equal _ (subst T (sym e) tt)))
+          | false ↦ λ e. omega arith
+        ] refl
 
-      module _ (cmp : K → K → Ordering) (above : IsAbove 1 (stack_shown cmp (laid_out log standing marks sessions revision shelf))) where
-        pub recorded_held : IsHeld (insert log standing c) (standing + 1) marks sessions revision shelf
-        recorded_held = record {
-          changes_within = let within = h.changes_within in omega (arith, inserted_length log standing c h.changes_within);
-          marks_within = h.marks_within;
-          stands = subst Stands (sym recorded) (recorded_stands (laid_out log standing marks sessions revision shelf) h.stands cmp c above);
-        }
+    -- a change, and in the log what it replaced, are taken back together
+    pub logged_back : (k : K) (v : Option V) (n : ℕ) (log : List (K × Option V)) → Sets cmp k v n es fs → taken_back cmp (live fs) (log ++ (k, value_at cmp k es) ∷ []) ≡ taken_back cmp (live es) log
+    logged_back k v n log sets =
+        back_append cmp (live fs) log ((k, value_at cmp k es) ∷ [])
+        ∙ ap (λ m. taken_back cmp (changed cmp m k (value_at cmp k es)) log) (live_changed cmp o exact es fs k v s t (values_set cmp k v n es fs sets))
+        ∙ ap (λ w. taken_back cmp (changed cmp (changed cmp (live es) k v) k w) log) (sym (find_live cmp o k es s))
+        ∙ ap (λ m. taken_back cmp m log) (changed_back cmp o exact (live es) k v (sorted_live cmp o es s))
 
-        pub recorded_now : stack_shown cmp (laid_out (insert log standing c) (standing + 1) marks sessions revision shelf)
-            ≡ with_top (changed cmp (applied cmp [] (take standing log)) c.0 c.1) (stack_shown cmp (laid_out log standing marks sessions revision shelf))
-        recorded_now = ap (stack_shown cmp) recorded ∙ recorded_shown (laid_out log standing marks sessions revision shelf) h.stands cmp c above
-
-    module _ (small : revision + 1 < 2 ^ 63) where
-      begun_layout : laid_out log standing (insert marks sessions standing) (sessions + 1) (revision + 1) shelf
-          ≡ moved (take standing log) (take sessions marks ++ length (take standing log) ∷ []) (revision + 1) (laid_out log standing marks sessions revision shelf)
-      begun_layout = same_layout (revision + 1) shelf refl refl
-          (inserted_front marks sessions standing h.marks_within ∙ ap (λ n. take sessions marks ++ n ∷ []) (sym (length-take-le standing log h.changes_within)))
-          (inserted_back marks sessions standing h.marks_within)
-
-      pub begun_held : IsHeld log standing (insert marks sessions standing) (sessions + 1) (revision + 1) shelf
-      begun_held = record {
-        changes_within = h.changes_within;
-        marks_within = let within = h.marks_within in omega (arith, inserted_length marks sessions standing h.marks_within);
-        stands = subst Stands (sym begun_layout) (begun_stands (laid_out log standing marks sessions revision shelf) h.stands small);
-      }
-
-      pub begun_now : (cmp : K → K → Ordering) → stack_shown cmp (laid_out log standing (insert marks sessions standing) (sessions + 1) (revision + 1) shelf)
-          ≡ begun (stack_shown cmp (laid_out log standing marks sessions revision shelf))
-      begun_now cmp = ap (stack_shown cmp) begun_layout ∙ begun_shown (laid_out log standing marks sessions revision shelf) h.stands cmp
-
-    long : length (take sessions marks) ≡ sessions
-    long = length-take-le sessions marks h.marks_within
-
-    high : length (take standing log) ≡ standing
-    high = length-take-le standing log h.changes_within
-
-    -- as many sessions are open as maps lie under the top
-    pub open_sessions : (cmp : K → K → Ordering) → length (stack_shown cmp (laid_out log standing marks sessions revision shelf)).under ≡ sessions
-    open_sessions cmp = length-map (take sessions marks) (map_at cmp (take standing log)) ∙ long
-
-    module _ (some : 0 < sessions) where
-      -- the marks without the newest of those that stand
-      older : take (sessions - 1) (remove marks (sessions - 1)) ≡ older_marks (laid_out log standing marks sessions revision shelf)
-      older =
-          let next : suc (sessions - 1) ≡ sessions = omega arith in
-          ap (λ n. take (sessions - 1) (take (sessions - 1) marks ++ drop n marks)) next
-          ∙ cut_front marks (sessions - 1) sessions (omega arith) h.marks_within
-          ∙ ap (λ n. take (n - 1) (take sessions marks)) (sym long)
-
-      rest : drop (sessions - 1) (remove marks (sessions - 1)) ≡ drop sessions marks
-      rest =
-          let next : suc (sessions - 1) ≡ sessions = omega arith in
-          ap (λ n. drop (sessions - 1) (take (sessions - 1) marks ++ drop n marks)) next ∙ cut_back marks (sessions - 1) sessions (omega arith) h.marks_within
-
-      fewer : length (remove marks (sessions - 1)) ≡ length marks - 1
-      fewer =
-          let within = h.marks_within in
-          let n : suc (sessions - 1) ≤ length marks = omega arith in
-          cut_length marks (sessions - 1) (suc (sessions - 1)) (omega arith) n ∙ omega arith
-
-      pub newest_is : (mark : ℕ) → mark ≡ get_or marks (sessions - 1) mark → mark ≡ newest_mark (laid_out log standing marks sessions revision shelf)
-      newest_is mark is =
-          let within = h.marks_within in
-          is ∙ get_or_default_zero marks (sessions - 1) mark (omega arith)
-          ∙ sym (get_or-take sessions marks (sessions - 1) 0 (omega arith))
-          ∙ ap (λ n. get_or (take sessions marks) (n - 1) 0) (sym long)
-
-      pub newest_fits : (mark : ℕ) → mark ≡ get_or marks (sessions - 1) mark → mark ≤ standing
-      newest_fits mark is =
-          let fits = mark_fits (laid_out log standing marks sessions revision shelf) h.stands (omega (arith, long)) in
-          omega (arith, newest_is mark is, length-take-le standing log h.changes_within)
-
-      module _ (mark : ℕ) (is : mark ≡ get_or marks (sessions - 1) mark) where
-        undone_layout : laid_out (take mark log ++ drop standing log) mark (remove marks (sessions - 1)) (sessions - 1) (revision - 1) shelf
-            ≡ moved (take (newest_mark (laid_out log standing marks sessions revision shelf)) (take standing log)) (older_marks (laid_out log standing marks sessions revision shelf)) (revision - 1) (laid_out log standing marks sessions revision shelf)
-        undone_layout = same_layout (revision - 1) shelf
-            (cut_front log mark standing (newest_fits mark is) h.changes_within ∙ ap (λ n. take n (take standing log)) (newest_is mark is))
-            (cut_back log mark standing (newest_fits mark is) h.changes_within)
-            older
-            rest
-
-        module _ (cmp : K → K → Ordering) (above : IsAbove 1 (stack_shown cmp (laid_out log standing marks sessions revision shelf))) where
-          pub undone_held : IsHeld (take mark log ++ drop standing log) mark (remove marks (sessions - 1)) (sessions - 1) (revision - 1) shelf
-          undone_held = record {
-            changes_within = omega (arith, cut_length log mark standing (newest_fits mark is) h.changes_within);
-            marks_within = let within = h.marks_within in omega (arith, fewer);
-            stands = subst Stands (sym undone_layout) (undone_stands (laid_out log standing marks sessions revision shelf) h.stands (omega (arith, long)) cmp above);
+    module _ (k : K) (v : Option V) (sets : Sets cmp k v (mentions_at cmp k es + 1) es fs) (front : List (List (K × Option V))) (log : List (K × Option V)) (shelf : Option (Aside K V)) (changes r : ℕ) where
+      pub logged_kept : IsKept cmp es (front ++ log ∷ []) shelf changes r → changes + 1 < 2 ^ 63 → IsKept cmp fs (front ++ (log ++ (k, value_at cmp k es) ∷ []) ∷ []) shelf (changes + 1) r
+      logged_kept h more =
+          let c : K × Option V = (k, value_at cmp k es) in
+          let long = length_append front (log ∷ []) in
+          let longer = length_append front ((log ++ c ∷ []) ∷ []) in
+          record {
+            exact = exact;
+            ordered = t;
+            tidy = tidy_set cmp k v (mentions_at cmp k es + 1) es fs sets h.tidy;
+            counted = λ q.
+                let before = h.counted q in
+                let now : mentions_at cmp q fs ≡ mentions_at cmp q es + one_if (eq_by_cmp cmp k q) = mentions_set cmp k v (mentions_at cmp k es + 1) es fs sets q ∙ counted_more k q in
+                let old = named_append_all cmp q front (log ∷ []) in
+                let new = named_append_all cmp q front ((log ++ c ∷ []) ∷ []) in
+                let entry = named_append cmp q log (c ∷ []) in
+                omega arith;
+            few =
+                let few = h.few in
+                let old = total_append front (log ∷ []) in
+                let new = total_append front ((log ++ c ∷ []) ∷ []) in
+                let entry = length_append log (c ∷ []) in
+                omega arith;
+            bound = more;
+            small = h.small;
+            sessions = let within = h.sessions in omega arith;
+            room = subst (HasRoom shelf) (let same : length (front ++ log ∷ []) ≡ length (front ++ (log ++ c ∷ []) ∷ []) = omega arith in ap (λ n. r - n) same) h.room;
           }
 
-          pub undone_now : stack_shown cmp (laid_out log standing marks sessions revision shelf)
-              ≡ with_top (applied cmp [] (take standing log)) (begun (stack_shown cmp (laid_out (take mark log ++ drop standing log) mark (remove marks (sessions - 1)) (sessions - 1) (revision - 1) shelf)))
-          undone_now =
-              undone_shown (laid_out log standing marks sessions revision shelf) h.stands (omega (arith, long)) cmp above
-              ∙ ap (λ d. with_top (applied cmp [] (take standing log)) (begun (stack_shown cmp d))) (sym undone_layout)
+      pub logged_shown : stack_shown cmp fs (front ++ (log ++ (k, value_at cmp k es) ∷ []) ∷ []) shelf r ≡ with_top (changed cmp (live es) k v) (stack_shown cmp es (front ++ log ∷ []) shelf r)
+      logged_shown =
+          let back = logged_back k v (mentions_at cmp k es + 1) log sets in
+          split_shown fs front (log ++ (k, value_at cmp k es) ∷ []) shelf r
+          ∙ same_stack
+          (ap (λ b. maps_under cmp b (below_of shelf ++ front) ++ b ∷ []) back)
+          (live_changed cmp o exact es fs k v s t (values_set cmp k v (mentions_at cmp k es + 1) es fs sets))
+          refl
+          (ap (λ b. shelf_shown cmp (taken_back_all cmp b front) (r - (length front + 1)) shelf) back)
+          ∙ ap (with_top (changed cmp (live es) k v)) (sym (split_shown es front log shelf r))
 
-      squashed_layout : laid_out log standing (remove marks (sessions - 1)) (sessions - 1) (revision - 1) shelf
-          ≡ moved (take standing log) (older_marks (laid_out log standing marks sessions revision shelf)) (revision - 1) (laid_out log standing marks sessions revision shelf)
-      squashed_layout = same_layout (revision - 1) shelf refl refl older rest
+    module _ (k : K) (v : Option V) (sets : Sets cmp k v 0 es fs) (changes r : ℕ) where
+      zero_or_none : (q : K) → mentions_at cmp q es ≡ 0 → cond (eq_by_cmp cmp k q) 0 (mentions_at cmp q es) ≡ 0
+      zero_or_none q none = elim (eq_by_cmp cmp k q) as (λ b. cond b 0 (mentions_at cmp q es) ≡ 0) [ true ↦ refl | false ↦ none ]
 
-      module _ (cmp : K → K → Ordering) (above : IsAbove 2 (stack_shown cmp (laid_out log standing marks sessions revision shelf))) where
-        pub squashed_held : IsHeld log standing (remove marks (sessions - 1)) (sessions - 1) (revision - 1) shelf
-        squashed_held = record {
-          changes_within = h.changes_within;
-          marks_within = let within = h.marks_within in omega (arith, fewer);
-          stands = subst Stands (sym squashed_layout) (squashed_stands (laid_out log standing marks sessions revision shelf) h.stands (omega (arith, long)) cmp above);
-        }
-
-        pub squashed_now : IsSquashed (stack_shown cmp (laid_out log standing marks sessions revision shelf)) (stack_shown cmp (laid_out log standing (remove marks (sessions - 1)) (sessions - 1) (revision - 1) shelf))
-        squashed_now = subst (λ d. IsSquashed (stack_shown cmp (laid_out log standing marks sessions revision shelf)) (stack_shown cmp d)) (sym squashed_layout)
-            (squashed_shown (laid_out log standing marks sessions revision shelf) h.stands (omega (arith, long)) cmp above)
-
-    none_inside : (cmp : K → K → Ordering) → IsNone (stack_shown cmp (laid_out log standing marks sessions revision shelf)).shelf → IsNone shelf
-    none_inside cmp none = by_shelf shelf none
-      where
-        by_shelf : (o : Option ℕ) → IsNone (option_map (λ r. shelf_shown cmp (changes_below (laid_out log standing marks sessions revision shelf) r) (drop standing log) (drop sessions marks) r) o) → IsNone o
-        by_shelf None e = refl
-        by_shelf (Some r) e = e
-
-    module _ (r : ℕ) where
-      kept_is : kept_sessions (laid_out log standing marks sessions revision shelf) r ≡ sessions - (revision - r)
-      kept_is = ap (λ n. n - (revision - r)) long
-
-      -- where the map at the revision r ends
-      module _ (end : ℕ) (is : end ≡ get_or (take sessions marks ++ standing ∷ []) (sessions - (revision - r)) 0) where
-        end_is : end ≡ get_or (ends_of (take standing log) (take sessions marks)) (kept_sessions (laid_out log standing marks sessions revision shelf) r) 0
-        end_is = is ∙ ap (λ n. get_or (take sessions marks ++ n ∷ []) (sessions - (revision - r)) 0) (sym high) ∙ ap (λ i. get_or (ends_of (take standing log) (take sessions marks)) i 0) (sym kept_is)
-
-        pub end_fits : end ≤ standing
-        end_fits =
-            let fits = end_within (take standing log) (take sessions marks) (kept_sessions (laid_out log standing marks sessions revision shelf) r) h.stands.laid (omega arith) in
-            omega (arith, end_is, high)
-
-    module _ (r : ℕ) (some : revision - r ≤ sessions) where
-      committed_layout : laid_out log standing (take 0 marks ++ drop (sessions - (revision - r)) marks) (revision - r) revision shelf
-          ≡ moved (take standing log) (drop (kept_sessions (laid_out log standing marks sessions revision shelf) r) (take sessions marks)) revision (laid_out log standing marks sessions revision shelf)
-      committed_layout =
-          let add : sessions - (revision - r) + (revision - r) ≡ sessions = omega arith in
-          same_layout revision shelf refl refl
-          (sym (drop-take (sessions - (revision - r)) (revision - r) marks) ∙ ap (λ n. drop (sessions - (revision - r)) (take n marks)) add ∙ ap (λ n. drop n (take sessions marks)) (sym (kept_is r)))
-          (drop-drop (revision - r) (sessions - (revision - r)) marks ∙ ap (λ n. drop n marks) add)
-
-      module _ (cmp : K → K → Ordering) (none : IsNone (stack_shown cmp (laid_out log standing marks sessions revision shelf)).shelf) where
-        pub committed_held : IsHeld log standing (take 0 marks ++ drop (sessions - (revision - r)) marks) (revision - r) revision shelf
-        committed_held = record {
-          changes_within = h.changes_within;
-          marks_within = let within = h.marks_within in omega (arith, length-drop (sessions - (revision - r)) marks);
-          stands = subst Stands (sym committed_layout) (committed_stands (laid_out log standing marks sessions revision shelf) h.stands r (none_inside cmp none));
-        }
-
-        pub committed_now : stack_shown cmp (laid_out log standing (take 0 marks ++ drop (sessions - (revision - r)) marks) (revision - r) revision shelf)
-            ≡ committed r (stack_shown cmp (laid_out log standing marks sessions revision shelf))
-        committed_now = ap (stack_shown cmp) committed_layout ∙ committed_shown (laid_out log standing marks sessions revision shelf) h.stands r cmp (none_inside cmp none)
-
-    module _ (r : ℕ) (cmp : K → K → Ordering) (none : IsNone (stack_shown cmp (laid_out log standing marks sessions revision shelf)).shelf)
-        (from : revision ≤ r + length (stack_shown cmp (laid_out log standing marks sessions revision shelf)).under) (to : r ≤ revision)
-        (end : ℕ) (is : end ≡ get_or (take sessions marks ++ standing ∷ []) (sessions - (revision - r)) 0) where
-      since : revision ≤ r + length (take sessions marks)
-      since = omega (arith, open_sessions cmp, long)
-
-      -- with no shelf all stands
-      empty : (drop standing log ≡ []) × (drop sessions marks ≡ [])
-      empty = by_shelf shelf (none_inside cmp none) h.stands.shelf
-        where
-          by_shelf : (o : Option ℕ) → IsNone o → MatchOption o ((drop standing log ≡ []) × (drop sessions marks ≡ [])) (HasShelf (laid_out log standing marks sessions revision shelf)) →
-              (drop standing log ≡ []) × (drop sessions marks ≡ [])
-          by_shelf None e both = both
-          by_shelf (Some r) e both = absurd (true≢false e)
-
-      whole : {X : Type 0} (n : ℕ) (xs : List X) → drop n xs ≡ [] → xs ≡ take n xs
-      whole n xs none = sym (take-append-drop n xs) ∙ ap (λ rest. take n xs ++ rest) none ∙ append-nil (take n xs)
-
-      put_aside_layout : laid_out log end marks (sessions - (revision - r)) r (Some r) ≡ put_aside (laid_out log standing marks sessions revision shelf) r
-      put_aside_layout = same_layout r (Some r)
-          (ap₂ (λ n xs. take n xs) (end_is r end is) (whole standing log empty.0))
-          (ap₂ (λ n xs. drop n xs) (end_is r end is) (whole standing log empty.0))
-          (ap₂ (λ n xs. take n xs) (sym (kept_is r)) (whole sessions marks empty.1))
-          (ap₂ (λ n xs. drop n xs) (sym (kept_is r)) (whole sessions marks empty.1))
-
-      pub put_aside_held : IsHeld log end marks (sessions - (revision - r)) r (Some r)
-      put_aside_held = record {
-        changes_within = let fits = end_fits r end is in let within = h.changes_within in omega arith;
-        marks_within = let within = h.marks_within in omega arith;
-        stands = subst Stands (sym put_aside_layout) (put_aside_stands (laid_out log standing marks sessions revision shelf) h.stands r since to);
+      pub set_kept : IsKept cmp es [] None changes r → IsKept cmp fs [] None changes r
+      set_kept h = record {
+        exact = exact;
+        ordered = t;
+        tidy = tidy_set cmp k v 0 es fs sets h.tidy;
+        counted = λ q. mentions_set cmp k v 0 es fs sets q ∙ zero_or_none q (h.counted q);
+        few = h.few;
+        bound = h.bound;
+        small = h.small;
+        sessions = h.sessions;
+        room = tt;
       }
 
-      pub put_aside_now : IsShelved r (stack_shown cmp (laid_out log standing marks sessions revision shelf)) (stack_shown cmp (laid_out log end marks (sessions - (revision - r)) r (Some r)))
-      put_aside_now = subst (λ d. IsShelved r (stack_shown cmp (laid_out log standing marks sessions revision shelf)) (stack_shown cmp d)) (sym put_aside_layout)
-          (put_aside_shown (laid_out log standing marks sessions revision shelf) h.stands r since to cmp)
+      pub set_shown : stack_shown cmp fs [] None r ≡ with_top (changed cmp (live es) k v) (stack_shown cmp es [] None r)
+      set_shown = same_stack refl (live_changed cmp o exact es fs k v s t (values_set cmp k v 0 es fs sets)) refl refl
 
-    alone_layout : laid_out (take standing log) standing (take sessions marks) sessions revision None ≡ alone (laid_out log standing marks sessions revision shelf)
-    alone_layout = same_layout revision None
-        (take-take standing standing log (omega arith))
-        (drop_all standing (take standing log) (omega (arith, high)))
-        (take-take sessions sessions marks (omega arith))
-        (drop_all sessions (take sessions marks) (omega (arith, long)))
+  module _ (es : List (K × Slot V)) (opened : List (List (K × Option V))) (shelf : Option (Aside K V)) (changes r : ℕ) where
+    pub begun_kept : IsKept cmp es opened shelf changes r → r + 1 < 2 ^ 63 → IsKept cmp es (opened ++ [] ∷ []) shelf changes (r + 1)
+    begun_kept h small =
+        let long = length_append opened ([] ∷ []) in
+        record {
+          exact = h.exact;
+          ordered = h.ordered;
+          tidy = h.tidy;
+          counted = λ q. let before = h.counted q in let parts = named_append_all cmp q opened ([] ∷ []) in omega arith;
+          few = let few = h.few in let parts = total_append opened ([] ∷ []) in omega arith;
+          bound = h.bound;
+          small = small;
+          sessions = let within = h.sessions in omega arith;
+          room = subst (HasRoom shelf) (let same : r - length opened ≡ r + 1 - length (opened ++ [] ∷ []) = omega arith in same) h.room;
+        }
 
-    pub alone_held : IsHeld (take standing log) standing (take sessions marks) sessions revision None
-    alone_held = record {
-      changes_within = omega (arith, high);
-      marks_within = omega (arith, long);
-      stands = subst Stands (sym alone_layout) (alone_stands (laid_out log standing marks sessions revision shelf) h.stands);
-    }
+    pub begun_shown : stack_shown cmp es (opened ++ [] ∷ []) shelf (r + 1) ≡ begun (stack_shown cmp es opened shelf r)
+    begun_shown =
+        split_shown es opened [] shelf (r + 1)
+        ∙ same_stack refl refl refl (ap (λ n. shelf_shown cmp (taken_back_all cmp (live es) opened) n shelf) (let same : r + 1 - (length opened + 1) ≡ r - length opened = omega arith in same))
 
-    pub alone_now : (cmp : K → K → Ordering) → stack_shown cmp (laid_out (take standing log) standing (take sessions marks) sessions revision None)
-        ≡ without_shelf (stack_shown cmp (laid_out log standing marks sessions revision shelf))
-    alone_now cmp = ap (stack_shown cmp) alone_layout
+    pub begun_above : length opened ≤ r → IsAbove 1 (begun (stack_shown cmp es opened shelf r))
+    begun_above within = by_shelf shelf
+      where
+        by_shelf : (shelf : Option (Aside K V)) → IsAbove 1 (begun (stack_shown cmp es opened shelf r))
+        by_shelf None = tt
+        by_shelf (Some s) = let up : r - length opened + 1 ≤ r + 1 = omega arith in up
 
-    -- the map under the top
-    pub under_now : (cmp : K → K → Ordering) → 0 < sessions → (mark : ℕ) → mark ≡ get_or marks (sessions - 1) mark →
-        under_top (stack_shown cmp (laid_out log standing marks sessions revision shelf)) ≡ applied cmp [] (take mark log)
-    under_now cmp some mark is =
-        under_shown (laid_out log standing marks sessions revision shelf) h.stands (omega (arith, long)) cmp
-        ∙ ap (λ n. map_at cmp (take standing log) n) (sym (newest_is some mark is))
-        ∙ ap (applied cmp []) (take-take mark standing log (newest_fits some mark is))
+  module _ (es fs : List (K × Slot V)) (front : List (List (K × Option V))) (log : List (K × Option V)) (shelf : Option (Aside K V)) (changes r : ℕ) where
+    one_back : IsKept cmp es (front ++ log ∷ []) shelf changes r → r - 1 + 1 ≡ r
+    one_back h = let within = h.sessions in let long = length_append front (log ∷ []) in omega arith
 
-  module _ (log : List (K × Option V)) (standing : ℕ) (marks : List ℕ) (sessions revision r : ℕ) (h : IsHeld log standing marks sessions revision (Some r))
-      (end : ℕ) (is : end ≡ get_or (take sessions marks ++ standing ∷ []) (sessions - (revision - r)) 0) where
-    ends_fit : end ≤ standing
-    ends_fit = end_fits log standing marks sessions revision (Some r) h r end is
+    pub undone_kept : IsKept cmp es (front ++ log ∷ []) shelf changes r → IsStrictlySortedBy cmp (keys_of fs) → Releases cmp es fs (λ q. named_in cmp q log) (λ q. 0) → IsKept cmp fs front shelf changes (r - 1)
+    undone_kept h t gone =
+        let long = length_append front (log ∷ []) in
+        let within = h.sessions in
+        record {
+          exact = h.exact;
+          ordered = t;
+          tidy = gone.tidy h.tidy;
+          counted = λ q.
+              let before = h.counted q in
+              let less : mentions_at cmp q fs + named_in cmp q log ≡ mentions_at cmp q es + 0 = gone.mentions q in
+              let parts = named_append_all cmp q front (log ∷ []) in
+              omega arith;
+          few = let few = h.few in let parts = total_append front (log ∷ []) in omega arith;
+          bound = h.bound;
+          small = let small = h.small in omega arith;
+          sessions = omega arith;
+          room = subst (HasRoom shelf) (let same : r - length (front ++ log ∷ []) ≡ r - 1 - length front = omega arith in same) h.room;
+        }
 
-    brought_back_layout : laid_out (take end log ++ drop standing log) (length (take end log ++ drop standing log))
-        (take (sessions - (revision - r)) marks ++ drop sessions marks) (length (take (sessions - (revision - r)) marks ++ drop sessions marks))
-        (r + (length (take (sessions - (revision - r)) marks ++ drop sessions marks) - (sessions - (revision - r)))) None
-        ≡ brought_back (laid_out log standing marks sessions revision (Some r)) r
-    brought_back_layout =
-        let within = h.marks_within in
-        let many = cut_length marks (sessions - (revision - r)) sessions (omega arith) h.marks_within in
-        let count : length (take (sessions - (revision - r)) marks ++ drop sessions marks) - (sessions - (revision - r)) ≡ length (drop sessions marks) = omega (arith, many, length-drop sessions marks) in
-        let e = end_is log standing marks sessions revision (Some r) h r end is in
-        let k = kept_is log standing marks sessions revision (Some r) h r in
-        let changes : take (length (take end log ++ drop standing log)) (take end log ++ drop standing log) ≡ changes_below (laid_out log standing marks sessions revision (Some r)) r ++ drop standing log =
-        take-length (take end log ++ drop standing log) ∙ ap (λ xs. xs ++ drop standing log) (sym (take-take end standing log ends_fit) ∙ ap (λ n. take n (take standing log)) e) in
-        let before : take (length (take (sessions - (revision - r)) marks ++ drop sessions marks)) (take (sessions - (revision - r)) marks ++ drop sessions marks) ≡ marks_below (laid_out log standing marks sessions revision (Some r)) r ++ drop sessions marks =
-        take-length (take (sessions - (revision - r)) marks ++ drop sessions marks) ∙ ap (λ xs. xs ++ drop sessions marks) (sym (take-take (sessions - (revision - r)) sessions marks (omega arith)) ∙ ap (λ n. take n (take sessions marks)) (sym k)) in
-        ap (λ n. laid_out (take end log ++ drop standing log) (length (take end log ++ drop standing log)) (take (sessions - (revision - r)) marks ++ drop sessions marks) (length (take (sessions - (revision - r)) marks ++ drop sessions marks)) (r + n) None) count
-        ∙ same_layout (r + length (drop sessions marks)) None changes (drop-length (take end log ++ drop standing log)) before (drop-length (take (sessions - (revision - r)) marks ++ drop sessions marks))
+    pub undone_shown : IsKept cmp es (front ++ log ∷ []) shelf changes r → live fs ≡ taken_back cmp (live es) log → stack_shown cmp es (front ++ log ∷ []) shelf r ≡ with_top (live es) (begun (stack_shown cmp fs front shelf (r - 1)))
+    undone_shown h back =
+        split_shown es front log shelf r
+        ∙ same_stack
+        (ap (λ b. maps_under cmp b (below_of shelf ++ front) ++ b ∷ []) (sym back))
+        refl
+        (sym (one_back h))
+        (ap (λ b. shelf_shown cmp (taken_back_all cmp b front) (r - (length front + 1)) shelf) (sym back)
+        ∙ ap (λ n. shelf_shown cmp (taken_back_all cmp (live fs) front) n shelf) (let same : r - (length front + 1) ≡ r - 1 - length front = omega arith in same))
 
-    pub brought_back_held : IsHeld (take end log ++ drop standing log) (length (take end log ++ drop standing log))
-        (take (sessions - (revision - r)) marks ++ drop sessions marks) (length (take (sessions - (revision - r)) marks ++ drop sessions marks))
-        (r + (length (take (sessions - (revision - r)) marks ++ drop sessions marks) - (sessions - (revision - r)))) None
-    brought_back_held = record {
-      changes_within = omega arith;
-      marks_within = omega arith;
-      stands = subst Stands (sym brought_back_layout) (brought_back_stands (laid_out log standing marks sessions revision (Some r)) h.stands r h.stands.shelf);
-    }
+  module _ (es : List (K × Slot V)) (front : List (List (K × Option V))) (older newer : List (K × Option V)) (shelf : Option (Aside K V)) (changes r : ℕ) where
+    pub squashed_kept : IsKept cmp es ((front ++ older ∷ []) ++ newer ∷ []) shelf changes r → IsKept cmp es (front ++ (older ++ newer) ∷ []) shelf changes (r - 1)
+    squashed_kept h =
+        let long = length_append (front ++ older ∷ []) (newer ∷ []) in
+        let longer = length_append front (older ∷ []) in
+        let short = length_append front ((older ++ newer) ∷ []) in
+        let within = h.sessions in
+        record {
+          exact = h.exact;
+          ordered = h.ordered;
+          tidy = h.tidy;
+          counted = λ q.
+              let before = h.counted q in
+              let a = named_append_all cmp q (front ++ older ∷ []) (newer ∷ []) in
+              let b = named_append_all cmp q front (older ∷ []) in
+              let c = named_append_all cmp q front ((older ++ newer) ∷ []) in
+              let d = named_append cmp q older newer in
+              omega arith;
+          few =
+              let few = h.few in
+              let a = total_append (front ++ older ∷ []) (newer ∷ []) in
+              let b = total_append front (older ∷ []) in
+              let c = total_append front ((older ++ newer) ∷ []) in
+              let d = length_append older newer in
+              omega arith;
+          bound = h.bound;
+          small = let small = h.small in omega arith;
+          sessions = omega arith;
+          room = subst (HasRoom shelf) (let same : r - length ((front ++ older ∷ []) ++ newer ∷ []) ≡ r - 1 - length (front ++ (older ++ newer) ∷ []) = omega arith in same) h.room;
+        }
 
-    pub brought_back_now : (cmp : K → K → Ordering) → IsUnshelved (stack_shown cmp (laid_out log standing marks sessions revision (Some r)))
-        (stack_shown cmp (laid_out (take end log ++ drop standing log) (length (take end log ++ drop standing log))
-        (take (sessions - (revision - r)) marks ++ drop sessions marks) (length (take (sessions - (revision - r)) marks ++ drop sessions marks))
-        (r + (length (take (sessions - (revision - r)) marks ++ drop sessions marks) - (sessions - (revision - r)))) None))
-    brought_back_now cmp = subst (λ d. IsBroughtBack (shelf_shown cmp (changes_below (laid_out log standing marks sessions revision (Some r)) r) (drop standing log) (drop sessions marks) r)
-        (stack_shown cmp (laid_out log standing marks sessions revision (Some r))) (stack_shown cmp d)) (sym brought_back_layout)
-        (brought_back_shown (laid_out log standing marks sessions revision (Some r)) h.stands r h.stands.shelf cmp)
+    pub squashed_shown : IsKept cmp es ((front ++ older ∷ []) ++ newer ∷ []) shelf changes r → IsSquashed (stack_shown cmp es ((front ++ older ∷ []) ++ newer ∷ []) shelf r) (stack_shown cmp es (front ++ (older ++ newer) ∷ []) shelf (r - 1))
+    squashed_shown h =
+        let m = taken_back cmp (live es) newer in
+        let b = taken_back cmp m older in
+        let joined : taken_back cmp (live es) (older ++ newer) ≡ b = back_append cmp (live es) older newer in
+        let split = split_shown es front (older ++ newer) shelf (r - 1) in
+        let long = length_append front (older ∷ []) in
+        let longer = length_append (front ++ older ∷ []) (newer ∷ []) in
+        let within = h.sessions in (
+          m,
+          split_shown es (front ++ older ∷ []) newer shelf r
+              ∙ same_stack
+              (ap (λ ms. ms ++ m ∷ [])
+              (ap (maps_under cmp m) (sym (append_assoc (below_of shelf) front (older ∷ [])))
+              ∙ under_last cmp m (below_of shelf ++ front) older
+              ∙ ap (λ b. maps_under cmp b (below_of shelf ++ front) ++ b ∷ []) (sym joined)
+              ∙ sym (ap (λ s. s.under) split)))
+              refl
+              (let same : r ≡ r - 1 + 1 = omega arith in same)
+              (ap (λ b. shelf_shown cmp b (r - (length (front ++ older ∷ []) + 1)) shelf) (back_append_all cmp m front (older ∷ []) ∙ ap (λ b. taken_back_all cmp b front) (sym joined))
+              ∙ ap (λ n. shelf_shown cmp (taken_back_all cmp (taken_back cmp (live es) (older ++ newer)) front) n shelf) (let same : r - (length (front ++ older ∷ []) + 1) ≡ r - 1 - (length front + 1) = omega arith in same)
+              ∙ sym (ap (λ s. s.shelf) split)),
+        )
 
-  module _ (log : List (K × Option V)) (standing : ℕ) (marks : List ℕ) (sessions revision : ℕ) (shelf : Option ℕ) (h : IsHeld log standing marks sessions revision shelf)
-      (r : ℕ) (some : shelf ≡ Some r) (end : ℕ) (is : end ≡ get_or (take sessions marks ++ standing ∷ []) (sessions - (revision - r)) 0) where
-    pub unshelved_held : IsHeld (take end log ++ drop standing log) (length (take end log ++ drop standing log))
-        (take (sessions - (revision - r)) marks ++ drop sessions marks) (length (take (sessions - (revision - r)) marks ++ drop sessions marks))
-        (r + (length (take (sessions - (revision - r)) marks ++ drop sessions marks) - (sessions - (revision - r)))) None
-    unshelved_held = brought_back_held log standing marks sessions revision r (subst (IsHeld log standing marks sessions revision) some h) end is
+  -- the same, where the logs are known by an equation
+  module _ (es fs : List (K × Slot V)) (opened : List (List (K × Option V))) (front : List (List (K × Option V))) (log : List (K × Option V)) (shelf : Option (Aside K V)) (changes r : ℕ) (is : opened ≡ front ++ log ∷ []) (h : IsKept cmp es opened shelf changes r) where
+    pub undo_kept : IsStrictlySortedBy cmp (keys_of fs) → Releases cmp es fs (λ q. named_in cmp q log) (λ q. 0) → IsKept cmp fs front shelf changes (r - 1)
+    undo_kept t gone = undone_kept es fs front log shelf changes r (subst (λ l. IsKept cmp es l shelf changes r) is h) t gone
 
-    pub unshelved_now : (cmp : K → K → Ordering) → IsUnshelved (stack_shown cmp (laid_out log standing marks sessions revision shelf))
-        (stack_shown cmp (laid_out (take end log ++ drop standing log) (length (take end log ++ drop standing log))
-        (take (sessions - (revision - r)) marks ++ drop sessions marks) (length (take (sessions - (revision - r)) marks ++ drop sessions marks))
-        (r + (length (take (sessions - (revision - r)) marks ++ drop sessions marks) - (sessions - (revision - r)))) None))
-    unshelved_now cmp = subst (λ o. IsUnshelved (stack_shown cmp (laid_out log standing marks sessions revision o))
-        (stack_shown cmp (laid_out (take end log ++ drop standing log) (length (take end log ++ drop standing log))
-        (take (sessions - (revision - r)) marks ++ drop sessions marks) (length (take (sessions - (revision - r)) marks ++ drop sessions marks))
-        (r + (length (take (sessions - (revision - r)) marks ++ drop sessions marks) - (sessions - (revision - r)))) None))) (sym some)
-        (brought_back_now log standing marks sessions revision r (subst (IsHeld log standing marks sessions revision) some h) end is cmp)
+    pub undo_shown : live fs ≡ taken_back cmp (live es) log → stack_shown cmp es opened shelf r ≡ with_top (live es) (begun (stack_shown cmp fs front shelf (r - 1)))
+    undo_shown back = ap (λ l. stack_shown cmp es l shelf r) is ∙ undone_shown es fs front log shelf changes r (subst (λ l. IsKept cmp es l shelf changes r) is h) back
+
+    pub undo_named : (q : K) → named_in cmp q log ≤ mentions_at cmp q es
+    undo_named q =
+        let all = open_named es opened changes r shelf h q in
+        let split = ap (named_in_all cmp q) is in
+        let parts = named_append_all cmp q front (log ∷ []) in
+        omega arith
+
+  pub some_open : (es : List (K × Slot V)) (opened : List (List (K × Option V))) (changes r : ℕ) (shelf : Option (Aside K V)) (n : ℕ) → IsKept cmp es opened shelf changes r → {stack : Stack (List (K × V))} → stack_shown cmp es opened shelf r ≡ stack → n ≤ length stack.under → IsAbove n stack → n ≤ length opened
+  some_open es opened changes r shelf n h is some above = open_above es opened changes r shelf n h (subst (λ s. n ≤ length s.under) (sym is) some) (subst (IsAbove n) (sym is) above)
+
+  module _ (es : List (K × Slot V)) (opened rest joined : List (List (K × Option V))) (newer : List (K × Option V)) (shelf : Option (Aside K V)) (changes r : ℕ) (is : opened ≡ rest ++ newer ∷ []) (adds : AddsLog newer rest joined) (h : IsKept cmp es opened shelf changes r) where
+    both_last : opened ≡ (adds.0 ++ adds.1 ∷ []) ++ newer ∷ []
+    both_last = is ∙ ap (λ l. l ++ newer ∷ []) adds.2
+
+    whole : IsKept cmp es ((adds.0 ++ adds.1 ∷ []) ++ newer ∷ []) shelf changes r
+    whole = subst (λ l. IsKept cmp es l shelf changes r) both_last h
+
+    pub squash_kept : IsKept cmp es joined shelf changes (r - 1)
+    squash_kept = subst (λ l. IsKept cmp es l shelf changes (r - 1)) (sym adds.3) (squashed_kept es adds.0 adds.1 newer shelf changes r whole)
+
+    pub squash_shown : IsSquashed (stack_shown cmp es opened shelf r) (stack_shown cmp es joined shelf (r - 1))
+    squash_shown =
+        let s = squashed_shown es adds.0 adds.1 newer shelf changes r whole in
+        (s.0, ap (λ l. stack_shown cmp es l shelf r) both_last ∙ s.1 ∙ ap (λ l. record { under = (stack_shown cmp es l shelf (r - 1)).under ++ s.0 ∷ []; top = live es; revision = r - 1 + 1; shelf = (stack_shown cmp es l shelf (r - 1)).shelf }) (sym adds.3))
+
+  pub squash_room : (es : List (K × Slot V)) (opened rest : List (List (K × Option V))) (newer : List (K × Option V)) (shelf : Option (Aside K V)) (changes r : ℕ) → opened ≡ rest ++ newer ∷ [] → IsKept cmp es opened shelf changes r → total rest + length newer < 2 ^ 63
+  squash_room es opened rest newer shelf changes r is h =
+      let few = h.few in
+      let bound = h.bound in
+      let split = ap total is in
+      let parts = total_append rest (newer ∷ []) in
+      omega arith
+
+  module _ (o : IsTotalOrder cmp) (es fs : List (K × Slot V)) (opened : List (List (K × Option V))) (k : K) (v : Option V) (shelf : Option (Aside K V)) (changes r : ℕ) (h : IsKept cmp es opened shelf changes r) (t : IsStrictlySortedBy cmp (keys_of fs)) where
+    module _ (opened' : List (List (K × Option V))) (sets : Sets cmp k v (mentions_at cmp k es + 1) es fs) (adds : AddsEntry (k, value_at cmp k es) opened opened') where
+      pub change_kept : changes + 1 < 2 ^ 63 → IsKept cmp fs opened' shelf (changes + 1) r
+      change_kept more =
+          subst (λ l. IsKept cmp fs l shelf (changes + 1) r) (sym adds.3)
+          (logged_kept o h.exact es fs h.ordered t k v sets adds.0 adds.1 shelf changes r (subst (λ l. IsKept cmp es l shelf changes r) adds.2 h) more)
+
+      pub change_shown : stack_shown cmp fs opened' shelf r ≡ with_top (changed cmp (live es) k v) (stack_shown cmp es opened shelf r)
+      change_shown =
+          ap (λ l. stack_shown cmp fs l shelf r) adds.3
+          ∙ logged_shown o h.exact es fs h.ordered t k v sets adds.0 adds.1 shelf changes r
+          ∙ ap (λ l. with_top (changed cmp (live es) k v) (stack_shown cmp es l shelf r)) (sym adds.2)
+
+    module _ (sets : Sets cmp k v 0 es fs) (none : opened ≡ []) (above : IsAbove 1 (stack_shown cmp es opened shelf r)) where
+      alone : shelf ≡ None
+      alone = closed_off es opened changes r shelf none above
+
+      plain : IsKept cmp es [] None changes r
+      plain = subst (λ s. IsKept cmp es [] s changes r) alone (subst (λ l. IsKept cmp es l shelf changes r) none h)
+
+      pub put_kept : IsKept cmp fs opened shelf changes r
+      put_kept = subst (λ l. IsKept cmp fs l shelf changes r) (sym none) (subst (λ s. IsKept cmp fs [] s changes r) (sym alone) (set_kept o h.exact es fs h.ordered t k v sets changes r plain))
+
+      pub put_shown : stack_shown cmp fs opened shelf r ≡ with_top (changed cmp (live es) k v) (stack_shown cmp es opened shelf r)
+      put_shown =
+          ap (λ l. stack_shown cmp fs l shelf r) none
+          ∙ ap (λ s. stack_shown cmp fs [] s r) alone
+          ∙ set_shown o h.exact es fs h.ordered t k v sets changes r
+          ∙ ap (λ s. with_top (changed cmp (live es) k v) (stack_shown cmp es [] s r)) (sym alone)
+          ∙ ap (λ l. with_top (changed cmp (live es) k v) (stack_shown cmp es l shelf r)) (sym none)
+
+  pub unnamed : (es : List (K × Slot V)) (opened : List (List (K × Option V))) (shelf : Option (Aside K V)) (changes r : ℕ) → IsKept cmp es opened shelf changes r → opened ≡ [] → IsAbove 1 (stack_shown cmp es opened shelf r) → (q : K) → mentions_at cmp q es ≡ 0
+  unnamed es opened shelf changes r h none above q =
+      let alone = closed_off es opened changes r shelf none above in
+      (subst (λ s. IsKept cmp es [] s changes r) alone (subst (λ l. IsKept cmp es l shelf changes r) none h)).counted q
+
+  module _ (es : List (K × Slot V)) (opened opened' : List (List (K × Option V))) (log : List (K × Option V)) (shelf : Option (Aside K V)) (changes r : ℕ) (none : log ≡ []) (more : opened' ≡ opened ++ log ∷ []) where
+    begins : opened' ≡ opened ++ [] ∷ []
+    begins = more ∙ ap (λ l. opened ++ l ∷ []) none
+
+    pub begin_kept : IsKept cmp es opened shelf changes r → r + 1 < 2 ^ 63 → IsKept cmp es opened' shelf changes (r + 1)
+    begin_kept h small = subst (λ l. IsKept cmp es l shelf changes (r + 1)) (sym begins) (begun_kept es opened shelf changes r h small)
+
+    pub begin_shown : stack_shown cmp es opened' shelf (r + 1) ≡ begun (stack_shown cmp es opened shelf r)
+    begin_shown = ap (λ l. stack_shown cmp es l shelf (r + 1)) begins ∙ begun_shown es opened shelf changes r

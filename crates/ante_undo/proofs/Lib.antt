@@ -1,7 +1,9 @@
 pub mod Entries
-pub mod Applied
 pub mod Lists
-pub mod Shelved
-pub mod Steps
-pub mod Held
-pub mod Nearest
+mod Live
+mod Back
+mod Moves
+mod Ends
+mod Held
+mod Shelves
+mod Sides

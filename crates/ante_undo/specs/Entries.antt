@@ -16,6 +16,14 @@ module _ {K V : Type 0} where
   last_where test [] = None
   last_where test (e ∷ es) = option_or (last_where test es) (if test e.0 then Some e else None)
 
+  abbrev pub first_entry : List (K × V) → Option (K × V)
+  first_entry [] = None
+  first_entry (e ∷ es) = Some e
+
+  abbrev pub last_entry : List (K × V) → Option (K × V)
+  last_entry [] = None
+  last_entry (e ∷ es) = option_or (last_entry es) (Some e)
+
 module _ {K V : Type 0} (cmp : K → K → Ordering) where
   -- the map with the value at the key: the entry stands in its place, and an entry whose key ties with it goes
   abbrev pub with_entry : K → V → List (K × V) → List (K × V)

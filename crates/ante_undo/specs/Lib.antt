@@ -1,5 +1,5 @@
 pub mod Entries
 pub mod Stack
-pub mod Changes
-pub mod Layout
-pub mod Sides
+pub mod Slots
+pub mod Logs
+pub mod Kept

@@ -1,64 +1,79 @@
-ghost use Rattle.std.specs.Prelude.{◌≡◌, ℕ, ◌+◌, ◌-◌, ◌*◌, ◌^◌, ◌<◌, ◌≤◌, [], ◌++◌, ◌∷◌, length, take, slice_index_or, is_some, IsTrue, IfSome, IsSome, IsNone, Some, None, IfOk, IfErr, OnOk, OnErr};
+ghost use Rattle.std.specs.Prelude.{◌≡◌, ℕ, ◌+◌, ◌-◌, ◌*◌, ◌^◌, ◌<◌, ◌≤◌, [], ◌++◌, ◌∷◌, length, take, slice_index_or, is_some, not, IsTrue, IfSome, IsSome, IsNone, Some, None, IfOk, IfErr, OnOk, OnErr};
 ghost use Rattle.std.specs.Option.{option_copied, option_map};
 ghost use Rattle.std.specs.Map.Iter.{deref_pair};
 ghost use Rattle.std.specs.FinMap.Entries.{find, is_sorted};
-ghost use Rattle.ante_undo.specs.Entries.{changed, entry_from, entry_after, entry_before};
+ghost use Rattle.std.specs.List.{list_any};
+ghost use Rattle.std.specs.Ordering.{eq_by_cmp};
+ghost use Rattle.std.specs.FinMap.{IsAntisymmetric};
+ghost use Rattle.ante_undo.specs.Logs.{taken_back};
+ghost use Rattle.ante_undo.specs.Entries.{changed, entry_from, entry_after, entry_before, first_entry, last_entry};
 ghost use Rattle.ante_undo.specs.Stack.{opened, with_top, begun, committed, under_top, IsSquashed, without_shelf, IsShelved, IsUnshelved, IsAbove, IsSound};
 
-use crate::changes::{cut_out, value_at};
-use crate::neighbours::{Side, nearest};
-use std::alloc::{AllocError, AllocFailed, Global};
+use crate::logs::{
+    Aside, Logs, close, join_last, log_change, move_sessions, newest, replaced_at, undo_all,
+    undo_log,
+};
+use crate::neighbours::{after, at_or_after, before, first, last};
+use crate::slots::{Slots, set, value_of};
+use std::alloc::{AllocError, Global};
+use std::collections::{BTreeMap, LinkedList};
 use std::marker::Model;
+use std::mem::replace;
+
+// More changes in sessions than this are refused as memory is, so that no count of them runs over.
+const MOST_CHANGES: u64 = 0x7fff_ffff_ffff_ffff;
 
 /// A map with nested sessions.
 ///
 /// Contracts see a stack of whole maps: the top is the map as it is, and each open session has
-/// under it the map that it began with. With no session open a change is made for good. A key that
-/// is put again takes the place of the one that it ties with.
+/// under it the map that it began with. With no session open a change is made for good.
 ///
-/// The map is kept as its changes, so a look-up goes through them from the newest back. Only `put`,
-/// `remove` and `begin` can be refused memory, and then nothing has changed. No other call takes
-/// any: sessions go to the shelf and come back where they lie.
+/// The map is an ordered map of its newest values, and each session has a log of what its changes
+/// replaced. A look-up and a change take a logarithm of the entries; a session call takes what its
+/// sessions changed. Only `put`, `remove` and `begin` can be refused memory, and then nothing has
+/// changed. No other call takes any: values are exchanged between the map and the logs where they lie.
+///
+/// A key that was removed keeps its place while a session or the shelf could bring it back, and
+/// leaves the map once none can. `at_or_after`, `after`, `before`, `first` and `last` step over such
+/// places: these are at most as many as there are changes in the open sessions and on the shelf.
 #[derive(Drop)]
 pub struct Layered<K: Ord + Copy, V: Drop> {
-    // The changes that stand, the oldest first, and then those on the shelf. Each session's are a part of them.
-    log: Vec<(K, Option<V>)>,
-    // For each session that stands how many changes came before it, and then the same for those on the shelf.
-    marks: Vec<usize>,
-    // How many of the changes and how many of the marks stand.
-    standing: usize,
-    sessions: usize,
+    // A slot for each key that has a value or that a log names.
+    slots: Slots<K, V>,
+    // The logs of the sessions, the oldest first: of those since the shelf was made, or of all.
+    logs: Logs<K, V>,
+    shelf: Option<Aside<K, V>>,
+    // How many changes were made in sessions. The logs have no more entries.
+    changes: u64,
     revision: u64,
-    // While a shelf is out, the revision that it was made at.
-    shelf: Option<u64>,
 }
 
 impl<K: Ord + Copy, V: Drop> Model for Layered<K, V> {
     ghost use Rattle.std.specs.Prelude.{List};
     ghost use Rattle.ante_undo.specs.Stack.{Stack};
-    ghost use Rattle.ante_undo.specs.Layout.{stack_shown, laid_out, IsHeld};
+    ghost use Rattle.ante_undo.specs.Kept.{stack_shown, IsKept};
 
     ghost Value = { Stack (List (K × V)) };
 
-    ghost view = { λ s. stack_shown K.cmp (laid_out s.log.items s.standing s.marks.items s.sessions s.revision s.shelf) };
+    ghost view = { λ s. stack_shown K.cmp s.slots.entries s.logs s.shelf s.revision };
 
-    ghost invariant = { λ s. IsHeld s.log.items s.standing s.marks.items s.sessions s.revision s.shelf };
+    ghost invariant = { λ s. IsKept K.cmp s.slots.entries s.logs s.shelf s.changes s.revision };
 }
 
-// The lists keep the allocator that they were made with: the parameter of a call says that it may be refused memory.
+// The lists and the map keep the allocator that they were made with: the parameter of a call says that it may be refused memory.
 impl<K: Ord + Copy, V: Drop> Layered<K, V> {
-    /// An empty map with no session, at the revision.
+    /// An empty map with no session, at the revision. Keys that tie are equal, as those of a derived order are.
     pub fn new(alloc: Global, revision: u64) -> Layered<K, V>
         requires small { revision < 2 ^ 63 }
+        requires exact { IsAntisymmetric K.cmp }
         ensures { result ≡ opened [] revision }
     {
         Layered {
-            log: Vec::new(alloc),
-            marks: Vec::new(alloc),
-            standing: 0,
-            sessions: 0,
-            revision,
+            slots: BTreeMap::new(alloc),
+            logs: LinkedList::new(alloc),
             shelf: None,
+            changes: 0,
+            revision,
         }
     }
 
@@ -66,7 +81,7 @@ impl<K: Ord + Copy, V: Drop> Layered<K, V> {
     pub fn get(&self, key: &K) -> Option<&V>
         ensures { option_copied result ≡ find K.cmp key.now self.now.top }
     {
-        value_at(&self.log[..self.standing], key)
+        value_of(&self.slots, key)
     }
 
     /// The entry with the least key that is not below the given one.
@@ -74,7 +89,7 @@ impl<K: Ord + Copy, V: Drop> Layered<K, V> {
         ensures nearest { option_map deref_pair result ≡ entry_from K.cmp key.now self.now.top }
         ensures ordered { IsTrue (is_sorted K.cmp self.now.top) }
     {
-        nearest(&self.log[..self.standing], Side::AtOrAfter, key)
+        at_or_after(&self.slots, key)
     }
 
     /// The entry with the least key above the given one.
@@ -82,7 +97,7 @@ impl<K: Ord + Copy, V: Drop> Layered<K, V> {
         ensures nearest { option_map deref_pair result ≡ entry_after K.cmp key.now self.now.top }
         ensures ordered { IsTrue (is_sorted K.cmp self.now.top) }
     {
-        nearest(&self.log[..self.standing], Side::After, key)
+        after(&self.slots, key)
     }
 
     /// The entry with the greatest key below the given one.
@@ -90,7 +105,23 @@ impl<K: Ord + Copy, V: Drop> Layered<K, V> {
         ensures nearest { option_map deref_pair result ≡ entry_before K.cmp key.now self.now.top }
         ensures ordered { IsTrue (is_sorted K.cmp self.now.top) }
     {
-        nearest(&self.log[..self.standing], Side::Before, key)
+        before(&self.slots, key)
+    }
+
+    /// The entry with the least key.
+    pub fn first(&self) -> Option<(&K, &V)>
+        ensures first { option_map deref_pair result ≡ first_entry self.now.top }
+        ensures ordered { IsTrue (is_sorted K.cmp self.now.top) }
+    {
+        first(&self.slots)
+    }
+
+    /// The entry with the greatest key.
+    pub fn last(&self) -> Option<(&K, &V)>
+        ensures last { option_map deref_pair result ≡ last_entry self.now.top }
+        ensures ordered { IsTrue (is_sorted K.cmp self.now.top) }
+    {
+        last(&self.slots)
     }
 
     /// Puts the value at the key, and hands it back where memory is refused.
@@ -100,12 +131,10 @@ impl<K: Ord + Copy, V: Drop> Layered<K, V> {
         ensures err { OnErr result (self.new ≡ self.old) }
         ensures back { IfErr result (λ refused. refused.0 ≡ value) }
     {
-        match self.record((key, Some(value))) {
+        match self.change((key, Some(value))) {
             Ok(()) => Ok(()),
-            Err(refused) => match refused.value.1 {
-                Some(value) => Err((value, AllocError)),
-                None => unreachable!(),
-            },
+            Err(Some(value)) => Err((value, AllocError)),
+            Err(None) => unreachable!(),
         }
     }
 
@@ -119,34 +148,39 @@ impl<K: Ord + Copy, V: Drop> Layered<K, V> {
         if self.get(key).is_none() {
             return Ok(false);
         }
-        match self.record((*key, None)) {
+        match self.change((*key, None)) {
             Ok(()) => Ok(true),
             Err(_) => Err(AllocError),
         }
     }
 
-    // A change goes behind those that stand and in front of those on the shelf.
-    fn record(&mut self, change: (K, Option<V>)) -> Result<(), AllocFailed<(K, Option<V>)>>
+    // Puts a value at the change's key, or removes what stands there.
+    fn change(&mut self, change: (K, Option<V>)) -> Result<(), Option<V>>
         requires above { IsAbove 1 self.old }
         ensures ok { OnOk result (self.new ≡ with_top (changed K.cmp self.old.top change.0 change.1) self.old) }
         ensures err { OnErr result (self.new ≡ self.old) }
-        ensures back { IfErr result (λ refused. refused.value ≡ change) }
+        ensures back { IfErr result (λ value. value ≡ change.1) }
     {
-        self.log.insert(self.standing, change)?;
-        self.standing += 1;
+        if self.logs.is_empty() {
+            return set(&mut self.slots, change);
+        }
+        if self.changes == MOST_CHANGES {
+            return Err(change.1);
+        }
+        log_change(&mut self.slots, &mut self.logs, change)?;
+        self.changes += 1;
         Ok(())
     }
 
     /// Begins a session, and answers its revision.
-    pub fn begin(&mut self, _alloc: Global) -> Result<u64, AllocError>
+    pub fn begin(&mut self, alloc: Global) -> Result<u64, AllocError>
         requires small { self.old.revision + 1 < 2 ^ 63 }
         ensures revision { IfOk result (λ revision. revision ≡ self.old.revision + 1) }
         ensures ok { OnOk result (self.new ≡ begun self.old) }
         ensures above { OnOk result (IsAbove 1 self.new) }
         ensures err { OnErr result (self.new ≡ self.old) }
     {
-        self.marks.insert(self.sessions, self.standing)?;
-        self.sessions += 1;
+        self.logs.push_back(LinkedList::new(alloc))?;
         self.revision += 1;
         Ok(self.revision)
     }
@@ -157,10 +191,10 @@ impl<K: Ord + Copy, V: Drop> Layered<K, V> {
         requires above { IsAbove 1 self.old }
         ensures { self.old ≡ with_top self.old.top (begun self.new) }
     {
-        self.sessions -= 1;
-        let mark = self.marks.remove(self.sessions);
-        cut_out(&mut self.log, mark, self.standing);
-        self.standing = mark;
+        let Some(newest) = self.logs.pop_back() else {
+            unreachable!()
+        };
+        undo_log(&mut self.slots, newest);
         self.revision -= 1;
     }
 
@@ -170,8 +204,10 @@ impl<K: Ord + Copy, V: Drop> Layered<K, V> {
         requires above { IsAbove 2 self.old }
         ensures { IsSquashed self.old self.new }
     {
-        self.sessions -= 1;
-        let _ = self.marks.remove(self.sessions);
+        let Some(newest) = self.logs.pop_back() else {
+            unreachable!()
+        };
+        join_last(&mut self.logs, newest);
         self.revision -= 1;
     }
 
@@ -181,10 +217,9 @@ impl<K: Ord + Copy, V: Drop> Layered<K, V> {
         ensures { self.new ≡ committed revision self.old }
     {
         let kept = self.revision.saturating_sub(revision);
-        if kept < self.sessions as u64 {
-            let kept = kept as usize;
-            cut_out(&mut self.marks, 0, self.sessions - kept);
-            self.sessions = kept;
+        let open = self.logs.len();
+        if kept < open as u64 {
+            close(&mut self.slots, &mut self.logs, open - kept as usize);
         }
     }
 
@@ -196,11 +231,13 @@ impl<K: Ord + Copy, V: Drop> Layered<K, V> {
         requires to { revision ≤ self.old.revision }
         ensures { IsShelved revision self.old self.new }
     {
-        let kept = self.sessions - (self.revision - revision) as usize;
-        self.standing = end_of(&self.marks, self.sessions, self.standing, kept);
-        self.sessions = kept;
+        let count = (self.revision - revision) as usize;
+        let alloc = *self.logs.allocator();
+        let mut shelved = LinkedList::new(alloc);
+        move_sessions(&mut self.slots, &mut self.logs, &mut shelved, count);
+        let below = replace(&mut self.logs, LinkedList::new(alloc));
+        self.shelf = Some(Aside { below, shelved });
         self.revision = revision;
-        self.shelf = Some(revision);
     }
 
     /// Drops the sessions begun since the shelf was made, and puts those on the shelf back.
@@ -208,17 +245,16 @@ impl<K: Ord + Copy, V: Drop> Layered<K, V> {
         requires shelf { IsSome self.old.shelf }
         ensures { IsUnshelved self.old self.new }
     {
-        let Some(revision) = self.shelf else {
+        let Some(aside) = self.shelf.take() else {
             unreachable!()
         };
-        let kept = self.sessions - (self.revision - revision) as usize;
-        let end = end_of(&self.marks, self.sessions, self.standing, kept);
-        cut_out(&mut self.log, end, self.standing);
-        cut_out(&mut self.marks, kept, self.sessions);
-        self.standing = self.log.as_slice().len();
-        self.sessions = self.marks.as_slice().len();
-        self.revision = revision + (self.sessions - kept) as u64;
-        self.shelf = None;
+        let Aside { below, mut shelved } = aside;
+        let since = replace(&mut self.logs, below);
+        self.revision -= since.len() as u64;
+        undo_all(&mut self.slots, since);
+        let count = shelved.len();
+        move_sessions(&mut self.slots, &mut shelved, &mut self.logs, count);
+        self.revision += count as u64;
     }
 
     /// Forgets the sessions on the shelf.
@@ -226,9 +262,19 @@ impl<K: Ord + Copy, V: Drop> Layered<K, V> {
         requires shelf { IsSome self.old.shelf }
         ensures { self.new ≡ without_shelf self.old }
     {
-        self.log.truncate(self.standing);
-        self.marks.truncate(self.sessions);
-        self.shelf = None;
+        let Some(aside) = self.shelf.take() else {
+            unreachable!()
+        };
+        let Aside {
+            mut below,
+            mut shelved,
+        } = aside;
+        let count = shelved.len();
+        close(&mut self.slots, &mut shelved, count);
+        let Ok(()) = below.append(&mut self.logs) else {
+            unreachable!()
+        };
+        self.logs = below;
     }
 
     /// The revision of the newest session. Where none is open, the next one to begin has the number after it.
@@ -244,24 +290,33 @@ impl<K: Ord + Copy, V: Drop> Layered<K, V> {
         ensures count { result ≡ length self.now.under }
         ensures sound { IsSound self.now }
     {
-        self.sessions as u64
+        match &self.shelf {
+            Some(aside) => (aside.below.len() + self.logs.len()) as u64,
+            None => self.logs.len() as u64,
+        }
     }
 
-    /// The value at the key when the newest session began.
+    /// The value at the key when the newest session began. Goes through the session's log from its oldest change up to
+    /// the key's first, or through all of it and then takes one look-up.
     pub fn under(&self, key: &K) -> Option<&V>
         requires session { 0 < length self.now.under }
         ensures { option_copied result ≡ find K.cmp key.now (under_top self.now) }
     {
-        let end = self.marks[self.sessions - 1];
-        value_at(&self.log[..end], key)
+        match replaced_at(self.replaced(), key) {
+            Some(value) => value.as_ref(),
+            None => self.get(key),
+        }
     }
-}
 
-// How many of the changes lead to the stack's map with this number, the base being 0.
-fn end_of(marks: &[usize], sessions: usize, standing: usize, map: usize) -> usize
-    requires within { sessions ≤ length marks.now }
-    requires map { map ≤ sessions }
-    ensures { result ≡ slice_index_or (take sessions marks.now ++ standing ∷ []) map 0 }
-{
-    if map < sessions { marks[map] } else { standing }
+    /// What the newest session's changes replaced, each with its key, the oldest change first. A key may stand several times.
+    pub fn replaced(&self) -> &LinkedList<(K, Option<V>)>
+        requires session { 0 < length self.now.under }
+        ensures under { taken_back K.cmp self.now.top result.now ≡ under_top self.now }
+        ensures unchanged { (key : K) → IsTrue (not (list_any (λ c. eq_by_cmp K.cmp key c.0) result.now)) → find K.cmp key self.now.top ≡ find K.cmp key (under_top self.now) }
+    {
+        match newest(&self.logs, &self.shelf) {
+            Some(log) => log,
+            None => unreachable!(),
+        }
+    }
 }

@@ -2,9 +2,10 @@
 //! kept, or put on a shelf and brought back. Contracts see a map as a stack of whole maps.
 #![tactic(auto)]
 
-mod changes;
 mod layered;
+mod logs;
 mod neighbours;
+mod slots;
 
 pub use crate::layered::Layered;
 

@@ -1,89 +1,82 @@
-// The entry nearest to a key, in the map that a list of changes makes.
-ghost use Rattle.std.specs.Prelude.{◌≡◌, ◌&&◌, [], is_some, Some, if◌then◌else◌};
+// The first and the last value in a part of the slots.
+ghost use Rattle.std.specs.Prelude.{◌≡◌, IsTrue, [], ◌∷◌};
 ghost use Rattle.std.specs.Option.{option_map};
 ghost use Rattle.std.specs.Map.Iter.{deref_pair};
-ghost use Rattle.ante_undo.specs.Entries.{entry_at};
-ghost use Rattle.ante_undo.specs.Changes.{applied};
-ghost use Rattle.ante_undo.specs.Sides.{lies_on, is_nearer, beats, entry_on};
+ghost use Rattle.std.specs.BTreeMap.{IsOrdered};
+ghost use Rattle.ante_undo.specs.Entries.{entry_from, entry_after, entry_before, first_entry, last_entry};
+ghost use Rattle.ante_undo.specs.Slots.{live};
 
-use crate::changes::newest_at;
-use std::cmp::Ordering;
+use crate::slots::{Slot, Slots};
+use std::collections::btree_map::Range;
+use std::ops::Bound;
 
-// Where a neighbour of a key lies.
-#[derive(Clone, Copy)]
-pub(crate) enum Side {
-    AtOrAfter,
-    After,
-    Before,
-}
-
-impl Side {
-    // Whether a key that compares so with the given one lies on this side of it.
-    fn has(self, order: Ordering) -> bool
-        ensures { result ≡ lies_on self order }
-    {
-        match self {
-            Side::AtOrAfter => order.is_ge(),
-            Side::After => order.is_gt(),
-            Side::Before => order.is_lt(),
-        }
-    }
-
-    // Whether the key is nearer than the best so far, both being on this side.
-    fn prefers<K: Ord>(self, key: &K, best: &Option<K>) -> bool
-        ensures { result ≡ beats self K.cmp best.now key.now }
-    {
-        match best {
-            Some(best) => self.is_nearer(key.cmp(best)),
-            None => true,
-        }
-    }
-
-    // Whether of two keys on this side the one that compares so with the other is nearer.
-    fn is_nearer(self, order: Ordering) -> bool
-        ensures { result ≡ is_nearer self order }
-    {
-        match self {
-            Side::AtOrAfter | Side::After => order.is_lt(),
-            Side::Before => order.is_gt(),
-        }
-    }
-}
-
-// The entry nearest to the key on that side of it: of the changed keys that are in the map the nearest one is taken.
-pub(crate) fn nearest<'a, K: Ord + Copy, V>(
-    changes: &'a [(K, Option<V>)],
-    side: Side,
+// The entry with the least key that is not below the given one.
+pub(crate) fn at_or_after<'a, K: Ord + Copy, V: Drop>(
+    slots: &'a Slots<K, V>,
     key: &K,
 ) -> Option<(&'a K, &'a V)>
-    ensures { option_map deref_pair result ≡ entry_on side K.cmp key.now (applied K.cmp [] changes.now) }
+    ensures nearest { option_map deref_pair result ≡ entry_from K.cmp key.now (live slots.now.entries) }
+    ensures ordered { IsOrdered K.cmp slots.now }
 {
-    let mut best: Option<K> = None;
-    for change in changes {
-        best = better(changes, side, key, best, change.0);
-    }
-    match best {
-        Some(best) => newest_at(changes, &best),
-        None => None,
-    }
+    first_live(slots.range((Bound::Included(*key), Bound::Unbounded)))
 }
 
-// The other key, if it is on that side, nearer than the best and in the map.
-fn better<K: Ord + Copy, V>(
-    changes: &[(K, Option<V>)],
-    side: Side,
+// The entry with the least key above the given one.
+pub(crate) fn after<'a, K: Ord + Copy, V: Drop>(
+    slots: &'a Slots<K, V>,
     key: &K,
-    best: Option<K>,
-    other: K,
-) -> Option<K>
-    ensures { result ≡ (if lies_on side (K.cmp other key.now) && beats side K.cmp best other && is_some (entry_at K.cmp other (applied K.cmp [] changes.now)) then Some other else best) }
+) -> Option<(&'a K, &'a V)>
+    ensures nearest { option_map deref_pair result ≡ entry_after K.cmp key.now (live slots.now.entries) }
+    ensures ordered { IsOrdered K.cmp slots.now }
 {
-    if side.has(other.cmp(key))
-        && side.prefers(&other, &best)
-        && newest_at(changes, &other).is_some()
-    {
-        Some(other)
-    } else {
-        best
+    first_live(slots.range((Bound::Excluded(*key), Bound::Unbounded)))
+}
+
+// The entry with the greatest key below the given one.
+pub(crate) fn before<'a, K: Ord + Copy, V: Drop>(
+    slots: &'a Slots<K, V>,
+    key: &K,
+) -> Option<(&'a K, &'a V)>
+    ensures nearest { option_map deref_pair result ≡ entry_before K.cmp key.now (live slots.now.entries) }
+    ensures ordered { IsOrdered K.cmp slots.now }
+{
+    last_live(slots.range((Bound::Unbounded, Bound::Excluded(*key))))
+}
+
+// The entry with the least key.
+pub(crate) fn first<K: Ord + Copy, V: Drop>(slots: &Slots<K, V>) -> Option<(&K, &V)>
+    ensures first { option_map deref_pair result ≡ first_entry (live slots.now.entries) }
+    ensures ordered { IsOrdered K.cmp slots.now }
+{
+    first_live(slots.range(..))
+}
+
+// The entry with the greatest key.
+pub(crate) fn last<K: Ord + Copy, V: Drop>(slots: &Slots<K, V>) -> Option<(&K, &V)>
+    ensures last { option_map deref_pair result ≡ last_entry (live slots.now.entries) }
+    ensures ordered { IsOrdered K.cmp slots.now }
+{
+    last_live(slots.range(..))
+}
+
+fn first_live<'a, K, V>(mut slots: Range<'a, K, Slot<V>>) -> Option<(&'a K, &'a V)>
+    ensures { option_map deref_pair result ≡ first_entry (live slots.entry) }
+{
+    while let Some((key, slot)) = slots.next() {
+        if let Some(value) = &slot.value {
+            return Some((key, value));
+        }
     }
+    None
+}
+
+fn last_live<'a, K, V>(mut slots: Range<'a, K, Slot<V>>) -> Option<(&'a K, &'a V)>
+    ensures { option_map deref_pair result ≡ last_entry (live slots.entry) }
+{
+    while let Some((key, slot)) = slots.next_back() {
+        if let Some(value) = &slot.value {
+            return Some((key, value));
+        }
+    }
+    None
 }

@@ -86,7 +86,7 @@ impl Trial {
     }
 
     fn begin(&mut self, alloc: Global) -> Result<Option<u64>, AllocError> {
-        if self.map.revision() >= 1000 {
+        if self.map.revision() >= 10_000 {
             return Ok(None);
         }
         match self.map.begin(alloc) {
@@ -423,9 +423,50 @@ fn the_neighbours_pass_over_removed_keys(rt: HostRuntime) -> Result<(), AllocErr
             "before {key}"
         );
     }
+    assert_eq!(rt; trial.map.first().map(|entry| *entry.0), Some(10));
+    assert_eq!(rt; trial.map.last().map(|entry| *entry.0), Some(50));
     assert!(rt; trial.map.sessions() > 0);
+    assert_eq!(rt; trial.map.replaced().len(), 3);
     assert_eq!(rt; trial.map.under(&30).copied(), Some(3));
     assert_eq!(rt; trial.map.under(&20).copied(), None);
     assert_eq!(rt; trial.map.under(&50).copied(), Some(5));
+    Ok(())
+}
+
+// A number that all entries in their order go into.
+fn mixed(map: &Layered<u64, u64>) -> u64 {
+    let mut sum = 0u64;
+    let mut next = map.first();
+    for _ in 0..20_000 {
+        let Some((key, value)) = next else { break };
+        sum = sum.wrapping_mul(31).wrapping_add(*key).rotate_left(7) ^ *value;
+        next = map.after(key);
+    }
+    sum
+}
+
+#[test]
+fn as_many_sessions_are_taken_back_as_were_begun(rt: HostRuntime) -> Result<(), AllocError> {
+    let alloc = rt.alloc();
+    let mut trial = Trial::new(alloc, 5);
+    for key in 0..10_000 {
+        assert!(rt; trial.put(alloc, key, key ^ 85)?);
+    }
+    let before = mixed(&trial.map);
+    for session in 0..2_000u64 {
+        assert_eq!(rt; trial.begin(alloc)?, Some(session + 6));
+        let key = session.wrapping_mul(7_919) % 11_000;
+        if session % 3 == 0 {
+            trial.remove(alloc, key)?;
+        } else {
+            trial.put(alloc, key, session)?;
+        }
+    }
+    assert_ne!(rt; mixed(&trial.map), before);
+    for _ in 0..2_000 {
+        assert!(rt; trial.undo());
+    }
+    assert_eq!(rt; trial.map.sessions(), 0);
+    assert_eq!(rt; mixed(&trial.map), before);
     Ok(())
 }

@@ -1,5 +1,6 @@
 use Rattle.std.proofs.Common.{sym, ap, ◌∙◌}
-use Rattle.ante_sessions.specs.Walk.{first_entry, past}
+use Rattle.ante_undo.specs.Entries.{first_entry}
+use Rattle.ante_sessions.specs.Walk.{past}
 use Rattle.ante_sessions.proofs.Past.{after_first}
 use Rattle.ante_sessions.proofs.walk.next_entry.Goals as goal
 
