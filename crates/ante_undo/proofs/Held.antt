@@ -1,6 +1,5 @@
 -- What slots and logs stand for, and what holds of them, after each call has changed them.
-use Rattle.std.proofs.Common.{◌≡◌, ℕ, suc, ◌+◌, ◌-◌, ◌^◌, ◌<◌, ◌≤◌, Bool, true, false, true≢false, cond, T, List, [], ◌∷◌, ◌++◌, take, drop, length, Option, Some, None, IsNone, IsSome, IfSome, option_map, refl, sym, ap, subst, ◌∙◌, Ordering, Equal, is_eq, append_assoc, take-append-drop, arith}
-use Rattle.std.proofs.lemmas.List.{take_at, drop_at}
+use Rattle.std.proofs.Common.{◌≡◌, ℕ, ◌+◌, ◌-◌, ◌^◌, ◌<◌, ◌≤◌, true, false, true≢false, cond, T, List, [], ◌∷◌, ◌++◌, length, Option, Some, None, IsNone, refl, sym, ap, subst, ◌∙◌, Ordering, append_assoc, arith}
 use Rattle.std.specs.Ordering.{eq_by_cmp}
 use Rattle.std.specs.Cmp.{IsTotalOrder}
 use Rattle.std.specs.List.Sorted.{IsStrictlySortedBy}
@@ -9,13 +8,13 @@ use Rattle.std.specs.FinMap.{IsAntisymmetric}
 use Rattle.ante_undo.specs.declared.slots.Slot.{Slot}
 use Rattle.ante_undo.specs.declared.logs.Aside.{Aside}
 use Rattle.ante_undo.specs.Entries.{changed}
-use Rattle.ante_undo.specs.Stack.{Stack, Shelf, with_top, begun, committed, newest, without_newest, maps_of, without_shelf, under_top, IsSquashed, IsShelved, IsBroughtBack, IsUnshelved, IsAbove, IsSound}
+use Rattle.ante_undo.specs.Stack.{Stack, Shelf, with_top, begun, IsSquashed, IsAbove}
 use Rattle.ante_undo.specs.Slots.{live, value_at, mentions_at, Sets}
-use Rattle.ante_undo.specs.Logs.{one_if, total, named_in, named_in_all, taken_back, taken_back_all, maps_under, maps_over, AddsEntry, AddsLog, IsTidy, AreMoved, Releases}
+use Rattle.ante_undo.specs.Logs.{one_if, total, named_in, named_in_all, taken_back, taken_back_all, maps_under, AddsEntry, AddsLog, Releases}
 use Rattle.ante_undo.specs.Kept.{below_of, shelved_of, HasRoom, shelf_shown, stack_shown, IsKept}
 use Rattle.ante_undo.proofs.Entries.{equal}
 use Rattle.ante_undo.proofs.Live.{values_set, mentions_set, tidy_set, find_live, sorted_live, live_changed, changed_back}
-use Rattle.ante_undo.proofs.Back.{total_append, length_append, named_append, named_append_all, back_append, back_append_all, under_append, under_last, length_under, length_over, named_few_all}
+use Rattle.ante_undo.proofs.Back.{total_append, length_append, named_append, named_append_all, back_append, back_append_all, under_last, length_under, named_few_all}
 
 pub same_stack : {M : Type 0} {u u2 : List M} {t t2 : M} {r r2 : ℕ} {s s2 : Option (Shelf M)} → u ≡ u2 → t ≡ t2 → r ≡ r2 → s ≡ s2 →
     ◌≡◌ {A = Stack M} (record { under = u; top = t; revision = r; shelf = s }) (record { under = u2; top = t2; revision = r2; shelf = s2 })

@@ -1,5 +1,5 @@
 -- Entries and logs that are taken back one by one, or let go.
-use Rattle.std.proofs.Common.{◌≡◌, ℕ, ◌+◌, ◌-◌, ◌<◌, ◌≤◌, Bool, true, false, true≢false, cond, T, List, [], ◌∷◌, ◌++◌, length, get_or, set, is_eq, append_assoc, Option, refl, sym, ap, subst, ◌∙◌, Ordering, Equal, arith}
+use Rattle.std.proofs.Common.{◌≡◌, ℕ, ◌+◌, ◌-◌, ◌<◌, ◌≤◌, true, false, cond, T, List, [], ◌∷◌, ◌++◌, length, get_or, set, is_eq, append_assoc, Option, refl, sym, ap, subst, ◌∙◌, Ordering, arith}
 use Rattle.std.specs.Ordering.{eq_by_cmp}
 use Rattle.std.specs.Cmp.{IsTotalOrder, tied_itself}
 use Rattle.std.specs.List.Sorted.{IsStrictlySortedBy}
@@ -8,7 +8,7 @@ use Rattle.std.specs.FinMap.{IsAntisymmetric}
 use Rattle.ante_undo.specs.declared.slots.Slot.{Slot}
 use Rattle.ante_undo.specs.Entries.{changed}
 use Rattle.ante_undo.specs.Slots.{live, value_at, mentions_at, Sets}
-use Rattle.ante_undo.specs.Logs.{one_if, named_in, taken_back, Stays, IsMoved, named_in_all, taken_back_all, maps_under, maps_over, total, IsTurned, AreMoved, Releases}
+use Rattle.ante_undo.specs.Logs.{one_if, named_in, taken_back, Stays, IsMoved, named_in_all, taken_back_all, maps_under, maps_over, IsTurned, AreMoved, Releases}
 use Rattle.ante_undo.proofs.Entries.{equal}
 use Rattle.ante_undo.proofs.Live.{values_set, mentions_set, tidy_set, find_live, sorted_live, same_live, live_changed, changed_back}
 use Rattle.ante_undo.proofs.Back.{named_append, named_append_all, total_append, back_append, back_append_all, length_append, under_last, over_last}

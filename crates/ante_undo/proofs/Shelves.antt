@@ -1,12 +1,11 @@
 -- What slots and logs stand for, and what holds of them, after the calls that close sessions or deal with the shelf.
-use Rattle.std.proofs.Common.{◌≡◌, ℕ, zero, suc, ◌+◌, ◌-◌, ◌^◌, ◌<◌, ◌≤◌, List, [], ◌∷◌, ◌++◌, take, drop, length, get_or, Option, Some, None, IsNone, IsSome, IfSome, is_some, true≢false, refl, sym, ap, subst, ◌∙◌, Ordering, append_assoc, append-nil, arith}
+use Rattle.std.proofs.Common.{◌≡◌, ℕ, zero, suc, ◌+◌, ◌-◌, ◌^◌, ◌<◌, ◌≤◌, List, [], ◌∷◌, ◌++◌, take, drop, length, get_or, Option, Some, None, IsSome, IfSome, is_some, true≢false, refl, sym, ap, subst, ◌∙◌, Ordering, append_assoc, append-nil, arith}
 use Rattle.std.proofs.lemmas.List.{take_at, drop_at, length-drop}
-use Rattle.std.specs.Cmp.{IsTotalOrder}
 use Rattle.std.specs.List.Sorted.{IsStrictlySortedBy}
 use Rattle.std.specs.Map.{keys_of}
 use Rattle.ante_undo.specs.declared.slots.Slot.{Slot}
 use Rattle.ante_undo.specs.declared.logs.Aside.{Aside}
-use Rattle.ante_undo.specs.Stack.{Stack, Shelf, committed, newest, without_newest, maps_of, without_shelf, under_top, IsShelved, IsUnshelved, IsWithin, IsSound}
+use Rattle.ante_undo.specs.Stack.{committed, newest, without_newest, maps_of, without_shelf, under_top, IsShelved, IsUnshelved, IsWithin, IsSound}
 use Rattle.ante_undo.specs.Slots.{live, mentions_at}
 use Rattle.ante_undo.specs.Logs.{total, named_in_all, taken_back, taken_back_all, maps_under, maps_over, AreMoved, Releases}
 use Rattle.ante_undo.specs.Kept.{below_of, shelved_of, shelf_shown, stack_shown, IsKept}

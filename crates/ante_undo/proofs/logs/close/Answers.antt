@@ -1,4 +1,4 @@
-use Rattle.std.proofs.Common.{◌+◌, ap, ◌∙◌, drop, drop-drop, arith}
+use Rattle.std.proofs.Common.{ap, ◌∙◌, drop, drop-drop, arith}
 use Rattle.ante_undo.specs.Logs.{named_in_all}
 use Rattle.ante_undo.proofs.Moves.{released_again}
 use Rattle.ante_undo.proofs.logs.close.Goals as goal

@@ -1,5 +1,5 @@
-use Rattle.std.proofs.Common.{◌≡◌, ◌<◌, ◌≤◌, List, ◌∷◌, [], ◌++◌, refl, sym, ap, subst, ◌∙◌, arith}
-use Rattle.ante_undo.specs.Slots.{mentions_at, Sets}
+use Rattle.std.proofs.Common.{◌<◌, ◌≤◌, ◌∷◌, [], ◌++◌, sym, ap, subst, ◌∙◌, arith}
+use Rattle.ante_undo.specs.Slots.{mentions_at}
 use Rattle.ante_undo.specs.Logs.{named_in, IsMoved}
 use Rattle.ante_undo.proofs.Moves.{last_is, last_set, named_last, moved_entry}
 use Rattle.ante_undo.proofs.logs.move_entry.Goals as goal

@@ -1,4 +1,4 @@
-use Rattle.std.proofs.Common.{◌≡◌, ◌+◌, ◌<◌, [], length, refl, sym, subst, arith}
+use Rattle.std.proofs.Common.{[], sym, subst, arith}
 use Rattle.ante_undo.specs.Logs.{IsMoved}
 use Rattle.ante_undo.proofs.Moves.{nothing_moved, moved_again, all_moved, nothing_left}
 use Rattle.ante_undo.proofs.logs.turn.Goals as goal

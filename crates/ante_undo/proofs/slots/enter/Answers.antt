@@ -1,4 +1,4 @@
-use Rattle.std.proofs.Common.{rules, ap, ◌∙◌}
+use Rattle.std.proofs.Common.{rules, ◌∙◌}
 use Rattle.ante_undo.proofs.Live.{first_named}
 use Rattle.ante_undo.proofs.slots.enter.Goals as goal
 

@@ -1,8 +1,8 @@
-use Rattle.std.proofs.Common.{rules, ◌≡◌, ◌+◌, ◌^◌, ◌<◌, sym, subst, arith}
+use Rattle.std.proofs.Common.{rules, sym, subst, arith}
 use Rattle.ante_undo.specs.Stack.{IsAbove}
 use Rattle.ante_undo.proofs.Moves.{nothing_left}
 use Rattle.ante_undo.proofs.Ends.{on_ok}
-use Rattle.ante_undo.proofs.Held.{few_named, unnamed, change_kept, change_shown, put_kept, put_shown}
+use Rattle.ante_undo.proofs.Held.{few_named, change_kept, change_shown, put_shown}
 use Rattle.ante_undo.proofs.layered.Layered.change.Goals as goal
 
 pub returns-then-is_empty-clause-ok : goal.returns-then-is_empty-clause-ok

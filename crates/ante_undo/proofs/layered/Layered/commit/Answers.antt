@@ -1,4 +1,4 @@
-use Rattle.std.proofs.Common.{◌≡◌, ◌-◌, ◌≤◌, IsNone, None, length, sym, subst, ◌∙◌, arith}
+use Rattle.std.proofs.Common.{IsNone, sym, subst, arith}
 use Rattle.ante_undo.proofs.Held.{no_shelf}
 use Rattle.ante_undo.proofs.Shelves.{commit_kept, commit_shown, commit_nothing}
 use Rattle.ante_undo.proofs.layered.Layered.commit.Goals as goal

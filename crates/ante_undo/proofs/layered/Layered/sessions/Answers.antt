@@ -1,4 +1,4 @@
-use Rattle.std.proofs.Common.{◌+◌, length, ap, arith}
+use Rattle.std.proofs.Common.{length, ap, arith}
 use Rattle.ante_undo.specs.Kept.{below_of}
 use Rattle.ante_undo.proofs.Shelves.{sound, counts}
 use Rattle.ante_undo.proofs.layered.Layered.sessions.Goals as goal

@@ -1,4 +1,4 @@
-use Rattle.std.proofs.Common.{rules, ◌≡◌, ◌+◌, ◌≤◌, IsNone, length, ◌-◌, refl, sym, subst, ap, arith}
+use Rattle.std.proofs.Common.{rules, ◌+◌, ◌≤◌, IsNone, length, ◌-◌, refl, sym, subst, ap, arith}
 use Rattle.ante_undo.proofs.Held.{no_shelf}
 use Rattle.ante_undo.proofs.Shelves.{shelve_kept, shelve_shown, counts}
 use Rattle.ante_undo.specs.Kept.{below_of}

@@ -1,4 +1,4 @@
-use Rattle.std.proofs.Common.{◌≤◌, ◌++◌, ◌∷◌, [], length, ap, arith}
+use Rattle.std.proofs.Common.{◌∷◌, [], length, ap, arith}
 use Rattle.ante_undo.proofs.Back.{length_append}
 use Rattle.ante_undo.proofs.Held.{some_open, squash_room, squash_kept, squash_shown}
 use Rattle.ante_undo.proofs.layered.Layered.squash.Goals as goal

@@ -1,4 +1,4 @@
-use Rattle.std.proofs.Common.{◌<◌, length, ap, arith}
+use Rattle.std.proofs.Common.{length, ap, arith}
 use Rattle.ante_undo.proofs.Held.{some_open, undo_kept, undo_shown, undo_named}
 use Rattle.ante_undo.proofs.layered.Layered.undo.Goals as goal
 

@@ -1,4 +1,4 @@
-use Rattle.std.proofs.Common.{◌≡◌, ◌+◌, [], length, sym, ap, subst, ◌∙◌, arith}
+use Rattle.std.proofs.Common.{sym, ap, subst, ◌∙◌, arith}
 use Rattle.ante_undo.specs.Slots.{live}
 use Rattle.ante_undo.specs.Logs.{named_in_all, taken_back_all, Releases}
 use Rattle.ante_undo.proofs.Moves.{nothing_left}
