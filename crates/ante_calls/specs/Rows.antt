@@ -2,7 +2,7 @@
 -- the first refusal. Each is written once for primary rows and for the rows of the three indexes.
 use Rattle.std.specs.Prelude.{ℕ, ◌==◌, ℤ, int_lt, Bool, true, false, not, ◌&&◌, ◌||◌, List, Option, None, Some, is_some, option_map, Result, Ok, Err, if◌then◌else◌}
 use Rattle.std.specs.FinMap.Entries.{find}
-use Rattle.ante_undo.specs.Entries.{entry_after, entry_before}
+use Rattle.ante_undo.specs.Entries.{entry_after, entry_before, last_entry}
 use Rattle.ante_pack.specs.declared.names.Name.{Name}
 use Rattle.ante_pack.specs.declared.names.TableKey.{TableKey}
 use Rattle.ante_state.specs.Orders.{table_order}
@@ -10,7 +10,6 @@ use Rattle.ante_types.specs.declared.context.RunContext.{RunContext}
 use Rattle.ante_types.specs.declared.context.Mode.{Mode}
 use Rattle.ante_types.specs.declared.context.Mode.TheVariants as mode
 use Rattle.ante_types.specs.World.{World}
-use Rattle.ante_rows.specs.Rows.{last_entry}
 use Rattle.ante_store.specs.declared.change.Change.{Change}
 use Rattle.ante_store.specs.declared.change.WriteError.{WriteError}
 use Rattle.ante_store.specs.declared.change.WriteError.TheVariants as error

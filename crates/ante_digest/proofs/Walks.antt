@@ -4,7 +4,8 @@ use Rattle.std.specs.Cmp.{IsTotalOrder}
 use Rattle.std.specs.List.{flat_map}
 use Rattle.std.specs.FinMap.Entries.{is_sorted}
 use Rattle.sha2.specs.declared.Sha256.{Sha256}
-use Rattle.ante_sessions.specs.Walk.{first_entry, past}
+use Rattle.ante_undo.specs.Entries.{first_entry}
+use Rattle.ante_sessions.specs.Walk.{past}
 use Rattle.ante_sessions.proofs.Past.{past_next}
 use Rattle.ante_digest.specs.Feeds.{Feeds, piece_of}
 use Rattle.ante_digest.proofs.Fed.{onto}

@@ -3,7 +3,8 @@ ghost use Rattle.std.specs.Prelude.{◌≡◌, ℕ, List, ◌%◌, ◌^◌, leng
 ghost use Rattle.std.specs.List.{flat_map};
 ghost use Rattle.std.specs.Option.{option_map};
 ghost use Rattle.std.specs.FinMap.Entries.{is_sorted};
-ghost use Rattle.ante_sessions.specs.Walk.{first_entry, past};
+ghost use Rattle.ante_undo.specs.Entries.{first_entry};
+ghost use Rattle.ante_sessions.specs.Walk.{past};
 ghost use Rattle.ante_digest.specs.Feeds.{Feeds, piece_of};
 ghost use Rattle.ante_digest.specs.Entries.{counted};
 ghost use Rattle.ante_pack.specs.Forms.{varuint};

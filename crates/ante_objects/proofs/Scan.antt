@@ -5,9 +5,9 @@ use Rattle.std.specs.List.{list_any}
 use Rattle.std.specs.Cmp.{IsTotalOrder}
 use Rattle.std.specs.FinMap.Entries.{is_sorted, below_all}
 use Rattle.std.proofs.lemmas.Cmp.{upto}
-use Rattle.ante_undo.specs.Entries.{entry_from}
+use Rattle.ante_undo.specs.Entries.{entry_from, first_entry}
 use Rattle.ante_undo.proofs.Entries.{first, second, less}
-use Rattle.ante_sessions.specs.Walk.{first_entry, past}
+use Rattle.ante_sessions.specs.Walk.{past}
 use Rattle.ante_sessions.proofs.Past.{past_next}
 
 turned : (r : Ordering) → is_ge r ≡ true → is_gt (ordering_reverse r) ≡ false

@@ -49,7 +49,7 @@ impl Objects {
             if asks_for(level, at, *requirement) {
                 return true;
             }
-            next = keyed(next_entry(self.links(), start, Some(at)));
+            next = keyed(next_entry(self.links(), Some(at)));
         }
         false
     }

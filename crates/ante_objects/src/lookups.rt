@@ -4,7 +4,8 @@ ghost use Rattle.std.specs.Option.{option_map, option_copied};
 ghost use Rattle.std.specs.Ordering.{nat_cmp};
 ghost use Rattle.std.specs.Map.Iter.{deref_pair};
 ghost use Rattle.std.specs.FinMap.Entries.{find, is_sorted};
-ghost use Rattle.ante_sessions.specs.Walk.{first_entry, past};
+ghost use Rattle.ante_undo.specs.Entries.{first_entry};
+ghost use Rattle.ante_sessions.specs.Walk.{past};
 ghost use Rattle.ante_objects.specs.Objects.{link_key, shown_link, recent_key, shown_recent};
 
 use crate::objects::Objects;
@@ -62,7 +63,7 @@ impl Objects {
         ensures next { option_map (λ e. (e.0, e.1.now)) result ≡ first_entry (past ⟦<Name as Ord>⟧.cmp after self.now.top.accounts) }
         ensures ordered { IsTrue (is_sorted ⟦<Name as Ord>⟧.cmp self.now.top.accounts) }
     {
-        keyed(next_entry(self.accounts(), Name(0), after))
+        keyed(next_entry(self.accounts(), after))
     }
 
     /// The first permission after the given one, or the first of all.
@@ -70,11 +71,7 @@ impl Objects {
         ensures next { option_map (λ e. (e.0, e.1.now)) result ≡ first_entry (past ⟦<Level as Ord>⟧.cmp after self.now.top.permissions) }
         ensures ordered { IsTrue (is_sorted ⟦<Level as Ord>⟧.cmp self.now.top.permissions) }
     {
-        let start = Level {
-            actor: Name(0),
-            permission: Name(0),
-        };
-        keyed(next_entry(self.permissions(), start, after))
+        keyed(next_entry(self.permissions(), after))
     }
 
     /// The first link after the given account, contract and action, or the first of all, with the permission that it asks
@@ -83,12 +80,11 @@ impl Objects {
         ensures next { result ≡ option_map shown_link (first_entry (past ⟦<LinkKey as Ord>⟧.cmp (option_map link_key after) self.now.top.links)) }
         ensures ordered { IsTrue (is_sorted ⟦<LinkKey as Ord>⟧.cmp self.now.top.links) }
     {
-        let start = link_key((Name(0), Name(0), Name(0)));
         let after = match after {
             Some(link) => Some(link_key(link)),
             None => None,
         };
-        match next_entry(self.links(), start, after) {
+        match next_entry(self.links(), after) {
             Some((at, required)) => Some(((at.account, at.code, at.action), *required)),
             None => None,
         }
@@ -99,12 +95,11 @@ impl Objects {
         ensures next { result ≡ option_map shown_recent (first_entry (past ⟦<RecentKey as Ord>⟧.cmp (option_map recent_key after) self.now.top.recent)) }
         ensures ordered { IsTrue (is_sorted ⟦<RecentKey as Ord>⟧.cmp self.now.top.recent) }
     {
-        let start = recent_key((0, [0; 32]));
         let after = match after {
             Some(recent) => Some(recent_key(recent)),
             None => None,
         };
-        match next_entry(self.all_recent(), start, after) {
+        match next_entry(self.all_recent(), after) {
             Some((at, _)) => Some((at.expiration, at.id)),
             None => None,
         }
@@ -115,7 +110,7 @@ impl Objects {
         ensures next { result ≡ first_entry (past nat_cmp after self.now.top.references) }
         ensures ordered { IsTrue (is_sorted nat_cmp self.now.top.references) }
     {
-        match next_entry(self.references(), 0, after) {
+        match next_entry(self.references(), after) {
             Some((low, id)) => Some((*low, *id)),
             None => None,
         }

@@ -1,2 +1,3 @@
 pub mod Sums
 mod Walks
+mod LeastOver

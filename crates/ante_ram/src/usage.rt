@@ -1,11 +1,14 @@
 ghost use Rattle.std.specs.Prelude.{◌≡◌, ℕ, ℤ, pos, ◌+◌, ◌-◌, ◌^◌, ◌<◌, ◌≤◌, [], length, Some, None, Err, IfSome, OnSome, T, IsTrue, OnOk, OnErr, IfOk, IfErr, not, ◌↔◌, negsuc};
 ghost use Rattle.std.specs.List.{AllByRecursion};
 ghost use Rattle.std.specs.Option.{option_map};
+ghost use Rattle.std.specs.FinMap.{IsAntisymmetric};
 ghost use Rattle.std.specs.FinMap.Entries.{find, is_sorted};
 ghost use Rattle.ante_undo.specs.Stack.{opened, with_top, begun, committed, under_top, IsSquashed, without_shelf, IsShelved, IsUnshelved, IsAbove, IsSound};
-ghost use Rattle.ante_sessions.specs.Walk.{first_entry, past};
+ghost use Rattle.ante_undo.specs.Entries.{first_entry};
+ghost use Rattle.ante_sessions.specs.Walk.{past};
 ghost use Rattle.ante_state.specs.Billing.{most_usage};
-ghost use Rattle.ante_ram.specs.Usage.{used_of, quota_of, usage_sum, with_share, with_change, with_quota, moved, fall, is_free, is_over, first_over, shown_share, exceeds};
+ghost use Rattle.ante_ram.specs.Usage.{used_of, quota_of, usage_sum, with_share, with_change, with_quota, moved, fall, is_free, first_over, shown_share, exceeds};
+ghost use Rattle.ante_ram.specs.Least.{over_at, lesser_over, least_over};
 ghost use Rattle.ante_ram.specs.declared.usage.RamFault.TheVariants.{OutOfMemory, RamTotal};
 
 use crate::parts::{Parts, Rest, Share, UsageShape, put_rest, put_share};
@@ -15,6 +18,7 @@ use ante_state::billing::MOST_USAGE;
 use ante_state::total_order;
 use ante_undo::Layered;
 use std::alloc::{AllocError, Global};
+use std::collections::LinkedList;
 use std::marker::{Model, PhantomData};
 
 /// Why usage can't be changed.
@@ -124,21 +128,56 @@ impl Usage {
         ensures { result ≡ first_over ⟦<Name as Ord>⟧.cmp (under_top self.now) self.now.top }
     {
         total_order::<Name>();
-        let mut next = self.next_usage(None);
-        while let Some(account) = next {
-            if self.is_over(account) {
-                return Some(account);
-            }
-            next = self.next_usage(Some(account.0));
-        }
-        None
+        exact_names();
+        self.entries_hold();
+        self.least_over(self.kept.inner.first.replaced())
     }
 
-    fn is_over(&self, account: (Name, u64, i64)) -> bool
+    // The least account that is over, of those that were changed.
+    fn least_over(&self, changes: &LinkedList<(Name, Option<Share>)>) -> Option<(Name, u64, i64)>
         requires session { 0 < length self.now.under }
-        ensures { result ≡ is_over ⟦<Name as Ord>⟧.cmp (under_top self.now) account }
+        ensures { result ≡ least_over ⟦<Name as Ord>⟧.cmp (under_top self.now) self.now.top None changes.now }
     {
-        account.1 > self.used_before(account.0) && exceeds(account.1, account.2)
+        let mut least = None;
+        for change in changes {
+            least = self.lesser_over(least, change.0);
+        }
+        least
+    }
+
+    // The least so far, or the account, if it is over and less.
+    fn lesser_over(
+        &self,
+        least: Option<(Name, u64, i64)>,
+        account: Name,
+    ) -> Option<(Name, u64, i64)>
+        requires session { 0 < length self.now.under }
+        ensures { result ≡ lesser_over ⟦<Name as Ord>⟧.cmp (under_top self.now) self.now.top least account }
+    {
+        match least {
+            Some(found) => {
+                if found.0.cmp(&account).is_gt() {
+                    self.over_at(account).or(least)
+                } else {
+                    least
+                }
+            }
+            None => self.over_at(account),
+        }
+    }
+
+    // The account with its usage and its quota, if it is over. What it used before is looked up last, since that look-up
+    // goes through the session's changes.
+    fn over_at(&self, account: Name) -> Option<(Name, u64, i64)>
+        requires session { 0 < length self.now.under }
+        ensures { result ≡ over_at ⟦<Name as Ord>⟧.cmp (under_top self.now) self.now.top account }
+    {
+        let share = self.share(account);
+        if exceeds(share.used, share.quota) && share.used > self.used_before(account) {
+            Some((account, share.used, share.quota))
+        } else {
+            None
+        }
     }
 
     // What the account used when the newest session began.
@@ -159,7 +198,7 @@ impl Usage {
         ensures counted { IfSome result (λ e. IsTrue (not (is_free e.1 e.2))) }
         ensures ordered { IsTrue (is_sorted ⟦<Name as Ord>⟧.cmp self.now.top) }
     {
-        match next_entry(&self.kept.inner.first, Name(0), after) {
+        match next_entry(&self.kept.inner.first, after) {
             Some((account, share)) => Some(shown(account, share)),
             None => None,
         }
@@ -230,6 +269,11 @@ impl Usage {
         }
     }
 }
+
+// Names that tie are equal. The proof is all that this is for.
+fn exact_names()
+    ensures { IsAntisymmetric ⟦<Name as Ord>⟧.cmp }
+{}
 
 // Usage after a change of it.
 fn changed_usage(used: u64, change: i64) -> u64

@@ -4,9 +4,8 @@ use Rattle.std.specs.Ordering.{is_ge, is_gt, nat_cmp, ordering_reverse, MatchOrd
 use Rattle.std.specs.Option.{option_or}
 use Rattle.std.specs.Cmp.{IsTotalOrder, ranks}
 use Rattle.std.specs.FinMap.Entries.{is_sorted, below_all}
-use Rattle.ante_undo.specs.Entries.{entry_from, entry_after, entry_before}
+use Rattle.ante_undo.specs.Entries.{entry_from, entry_after, entry_before, last_entry}
 use Rattle.ante_undo.proofs.Entries.{first, second, less}
-use Rattle.ante_rows.specs.Rows.{last_entry}
 
 some_none : {X : Type 0} (x : X) → Some x ≡ None → ⊥
 some_none x h = absurd (true≢false cc)

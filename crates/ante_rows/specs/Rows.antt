@@ -1,7 +1,6 @@
 -- The rows of a table as a list by primary key, in which neighbours are places.
 use Rattle.std.specs.Prelude.{ℕ, List, [], ◌∷◌, Option, Some, None, if◌then◌else◌}
 use Rattle.std.specs.declared.cmp.Ordering.{Ordering}
-use Rattle.std.specs.Option.{option_or}
 use Rattle.std.specs.Ordering.{eq_by_cmp}
 use Rattle.ante_pack.specs.declared.names.TableKey.{TableKey}
 use Rattle.ante_undo.specs.Entries.{changed}
@@ -29,11 +28,6 @@ table_set table object m = record { tables = changed table_order m.tables table 
 
 abbrev pub row_set : TableKey → ℕ → Option PrimaryRow → RowsMap → RowsMap
 row_set table primary row m = record { tables = m.tables; rows = changed row_order m.rows (record { table = table; primary = primary }) row }
-
--- the last of the entries
-abbrev pub last_entry : {K V : Type 0} → List (K × V) → Option (K × V)
-last_entry [] = None
-last_entry (e ∷ es) = option_or (last_entry es) (Some e)
 
 -- tables and rows keep no rule between them
 abbrev pub nothing : {M : Type 0} → M → Type 0

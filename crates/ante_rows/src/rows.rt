@@ -3,27 +3,17 @@ ghost use Rattle.std.specs.Option.{option_map, option_copied};
 ghost use Rattle.std.specs.Ordering.{nat_cmp};
 ghost use Rattle.std.specs.FinMap.Entries.{find, is_sorted};
 ghost use Rattle.ante_undo.specs.Stack.{opened, with_top, begun, committed, IsSquashed, without_shelf, IsShelved, IsUnshelved, IsAbove, IsSound};
-ghost use Rattle.ante_undo.specs.Entries.{entry_from, entry_after, entry_before};
-ghost use Rattle.ante_sessions.specs.Walk.{first_entry, past};
-ghost use Rattle.ante_rows.specs.Rows.{rows_of, in_table, table_set, row_set, last_entry, nothing};
+ghost use Rattle.ante_undo.specs.Entries.{entry_from, entry_after, entry_before, first_entry, last_entry};
+ghost use Rattle.ante_sessions.specs.Walk.{past};
+ghost use Rattle.ante_rows.specs.Rows.{rows_of, in_table, table_set, row_set, nothing};
 ghost use Rattle.std.specs.Map.Iter.{deref_pair};
 
-use ante_pack::{Name, TableKey};
+use ante_pack::TableKey;
 use ante_sessions::{Both, Entries, Kept, Sessions, Shape, next_entry, set_entry};
 use ante_state::{PrimaryRow, RowKey, TableRow, total_order};
 use ante_undo::Layered;
 use std::alloc::{AllocError, Global};
 use std::marker::{Model, PhantomData};
-
-// Where a walk over all rows begins to look: no row comes before it.
-const FIRST: RowKey = RowKey {
-    table: TableKey {
-        code: Name(0),
-        scope: Name(0),
-        table: Name(0),
-    },
-    primary: 0,
-};
 
 pub(crate) type Parts = Both<Layered<TableKey, TableRow>, Layered<RowKey, PrimaryRow>>;
 
@@ -103,7 +93,7 @@ impl Rows {
         ensures next { option_map (λ e. (e.0, e.1.now)) result ≡ first_entry (past ⟦<TableKey as Ord>⟧.cmp after self.now.top.tables) }
         ensures ordered { IsTrue (is_sorted ⟦<TableKey as Ord>⟧.cmp self.now.top.tables) }
     {
-        match next_entry(&self.kept.inner.first, FIRST.table, after) {
+        match next_entry(&self.kept.inner.first, after) {
             Some((key, row)) => Some((*key, row)),
             None => None,
         }
@@ -114,7 +104,7 @@ impl Rows {
         ensures next { option_map (λ e. (e.0, e.1.now)) result ≡ first_entry (past ⟦<RowKey as Ord>⟧.cmp after self.now.top.rows) }
         ensures ordered { IsTrue (is_sorted ⟦<RowKey as Ord>⟧.cmp self.now.top.rows) }
     {
-        match next_entry(&self.kept.inner.second, FIRST, after) {
+        match next_entry(&self.kept.inner.second, after) {
             Some((key, row)) => Some((*key, row)),
             None => None,
         }

@@ -1,8 +1,8 @@
 use Rattle.std.proofs.Common.{◌<◌, Some, T, sym, ap, subst, ◌∙◌, option_map}
 use Rattle.std.specs.FinMap.Entries.{is_sorted}
 use Rattle.std.proofs.lemmas.Bool.{ltb-true}
-use Rattle.ante_undo.specs.Entries.{entry_from}
-use Rattle.ante_sessions.specs.Walk.{first_entry, past}
+use Rattle.ante_undo.specs.Entries.{entry_from, first_entry}
+use Rattle.ante_sessions.specs.Walk.{past}
 use Rattle.ante_objects.specs.Objects.{asks_for}
 use Rattle.ante_objects.proofs.Scan.{any_from, start_any, step_any, step_left, none_left}
 use Rattle.ante_state.specs.Orders.{link_order}
