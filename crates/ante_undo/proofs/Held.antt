@@ -326,11 +326,6 @@ module _ {K V : Type 0} (cmp : K → K → Ordering) where
           ∙ ap (λ s. with_top (changed cmp (live es) k v) (stack_shown cmp es [] s r)) (sym alone)
           ∙ ap (λ l. with_top (changed cmp (live es) k v) (stack_shown cmp es l shelf r)) (sym none)
 
-  pub unnamed : (es : List (K × Slot V)) (opened : List (List (K × Option V))) (shelf : Option (Aside K V)) (changes r : ℕ) → IsKept cmp es opened shelf changes r → opened ≡ [] → IsAbove 1 (stack_shown cmp es opened shelf r) → (q : K) → mentions_at cmp q es ≡ 0
-  unnamed es opened shelf changes r h none above q =
-      let alone = closed_off es opened changes r shelf none above in
-      (subst (λ s. IsKept cmp es [] s changes r) alone (subst (λ l. IsKept cmp es l shelf changes r) none h)).counted q
-
   module _ (es : List (K × Slot V)) (opened opened' : List (List (K × Option V))) (log : List (K × Option V)) (shelf : Option (Aside K V)) (changes r : ℕ) (none : log ≡ []) (more : opened' ≡ opened ++ log ∷ []) where
     begins : opened' ≡ opened ++ [] ∷ []
     begins = more ∙ ap (λ l. opened ++ l ∷ []) none

@@ -36,10 +36,10 @@ impl<V> Slot<V> {
 
 pub(crate) type Slots<K, V> = BTreeMap<K, Slot<V>>;
 
-// A key, and the value that it has in a log's place.
+// A key, and the value that is to stand there, or none.
 pub(crate) type Change<K, V> = (K, Option<V>);
 
-// Exchanges the value at a change's key for the change's, and counts one mention more.
+// Exchanges the value at the change's key for that of the change, and counts one mention more.
 pub(crate) fn enter<K: Ord + Copy, V: Drop>(
     slots: &mut Slots<K, V>,
     change: &mut Change<K, V>,
@@ -68,7 +68,7 @@ pub(crate) fn enter<K: Ord + Copy, V: Drop>(
     }
 }
 
-// Exchanges the value at a change's key for the change's.
+// Exchanges the value at the change's key for that of the change.
 pub(crate) fn exchange<K: Ord + Copy, V: Drop>(slots: &mut Slots<K, V>, change: &mut Change<K, V>)
     requires named { 0 < mentions_at K.cmp change.old.0 slots.old.entries }
     ensures slots { Sets K.cmp change.old.0 change.old.1 (mentions_at K.cmp change.old.0 slots.old.entries) slots.old.entries slots.new.entries }
@@ -96,12 +96,11 @@ pub(crate) fn forget<K: Ord + Copy, V: Drop>(slots: &mut Slots<K, V>, key: &K)
     }
 }
 
-// Sets the value at a key that nothing names. Where memory is refused it comes back.
+// Sets the value at a key that no log names, or takes it away. Where memory is refused the value comes back.
 pub(crate) fn set<K: Ord + Copy, V: Drop>(
     slots: &mut Slots<K, V>,
     change: Change<K, V>,
 ) -> Result<(), Option<V>>
-    requires unnamed { mentions_at K.cmp change.0 slots.old.entries ≡ 0 }
     ensures slots { OnOk result (Sets K.cmp change.0 change.1 0 slots.old.entries slots.new.entries) }
     ensures err { OnErr result (slots.new.entries ≡ slots.old.entries) }
     ensures back { IfErr result (λ value. value ≡ change.1) }
