@@ -223,8 +223,7 @@ impl<K: Ord + Copy, V: Drop> Layered<K, V> {
         }
     }
 
-    /// Moves the sessions above the revision to the shelf. Their changes and marks stay where they are:
-    /// they come after all that stands.
+    /// Moves the sessions above the revision to the shelf.
     pub fn shelve(&mut self, revision: u64)
         requires no_shelf { IsNone self.old.shelf }
         requires from { self.old.revision ≤ revision + length self.old.under }
