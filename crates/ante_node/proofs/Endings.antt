@@ -10,7 +10,8 @@ use Rattle.ante_node.specs.declared.fault.NodeFault.{NodeFault}
 use Rattle.ante_node.specs.declared.fault.NodeFault.TheVariants as faults
 use Rattle.ante_types.specs.Jobs.{Job}
 use Rattle.ante_node.specs.Requests.{◌>>=◌, Tells, node_fault, requested}
-use Rattle.ante_node.specs.Ask.{Asks, answer, asked_of}
+use Rattle.ante_node.specs.Ask.{Asks, HasAnswered, answer, asked_of}
+use Rattle.ante_node.proofs.Packing.{asked_packs}
 use Rattle.ante_node.specs.Commands.{ComesTo, made_by}
 use Rattle.ante_node.specs.Ends.{Delivers, EndsWith, HasWritten, RunEnds}
 
@@ -102,11 +103,11 @@ asked_told : (left : Option (List ℕ)) (input : List ℕ) (job : Job) → Tells
 asked_told None input job tells e = tt
 asked_told (Some all) input job tells e = ap asked_of tells ∙ e
 
-job_made : (left before after : Option (List ℕ)) (input text : List ℕ) (asked : Result Job InputFault) → asked_of input ≡ asked → Tells left input → requested (asked >>= λ job. Ok (answer job)) ≡ Ok text → Appends before after text → (job : Job) × Asks left job × Appends before after (answer job)
-job_made left before after input text (Ok job) e tells made appends = (job, asked_told left input job tells e, subst (Appends before after) (let same : answer job ≡ text = cc in sym same) appends)
+job_made : (left before after : Option (List ℕ)) (input text : List ℕ) (asked : Result Job InputFault) → asked_of input ≡ asked → Tells left input → requested (asked >>= λ job. Ok (answer job)) ≡ Ok text → Appends before after text → HasAnswered left before after
+job_made left before after input text (Ok job) e tells made appends = (job, asked_told left input job tells e, asked_packs input job e, subst (Appends before after) (let same : answer job ≡ text = cc in sym same) appends)
 job_made left before after input text (Err bad) e tells made appends = absurd (let clash = made in cc)
 
-pub run_answered : (words : List (List ℕ)) (left : Option (List ℕ)) (fault : NodeFault) (before after : Option (List ℕ)) (SinkRose : Type 0) → ComesTo words left (HasWritten fault before after SinkRose) → fault ≡ faults.Nothing → (job : Job) × Asks left job × Appends before after (answer job)
+pub run_answered : (words : List (List ℕ)) (left : Option (List ℕ)) (fault : NodeFault) (before after : Option (List ℕ)) (SinkRose : Type 0) → ComesTo words left (HasWritten fault before after SinkRose) → fault ≡ faults.Nothing → HasAnswered left before after
 run_answered words left fault before after SinkRose (inl w) well = absurd (let clash = (whole_written fault before after SinkRose (Err (Words w.0)) well w.2).1 in cc)
 run_answered words left fault before after SinkRose (inr (Ask, names, made)) well =
     let whole = whole_written fault before after SinkRose (requested (made_by Ask made.0)) well made.2 in

@@ -45,6 +45,14 @@ pub struct InputFault {
     pub kind: InputKind,
 }
 
+impl fmt::Display for InputFault {
+    fn fmt<W: fmt::Write>(&self, f: &mut fmt::Formatter<W>) -> fmt::Result {
+        write!(f, "the input is {} at {}", self.kind, self.at)
+    }
+}
+
+impl Error for InputFault {}
+
 /// What is wrong with what a run is asked: its words, or its input.
 #[derive(Clone, Copy, Debug, PartialEq, Eq)]
 pub enum RequestFault {

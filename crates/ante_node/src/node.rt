@@ -2,8 +2,7 @@ ghost use Rattle.std.specs.Prelude.{◌≡◌, ◌⊎◌, ℕ, [], map, string_b
 ghost use Rattle.std.specs.Io.KnownBytes.{Appends, IsAtEnd};
 ghost use Rattle.ante_base.specs.Faults.{Rose};
 ghost use Rattle.ante_base.specs.Source.{TakesAtMost};
-ghost use Rattle.ante_types.specs.Jobs.{Job};
-ghost use Rattle.ante_node.specs.Ask.{Asks, answer};
+ghost use Rattle.ante_node.specs.Ask.{HasAnswered};
 ghost use Rattle.ante_node.specs.Commands.{ComesTo, IsBadWord, MadeOf};
 ghost use Rattle.ante_node.specs.Ends.{EndsWith, HasWritten, RunEnds, status_of};
 ghost use Rattle.ante_node.specs.Limits.{input_limit};
@@ -144,7 +143,7 @@ pub fn run_node<R: Source, S: Sink>(
 
     // The headline: where all went well, the input was read to its end, and what was written is the text of the trace that
     // its transaction gives alone on the built-in genesis.
-    ensures answered { result.fault ≡ NodeFault.Nothing → IsAtEnd (R.left files.new) × ((job : Job) × Asks (R.left files.old) job × Appends (S.written out.old) (S.written out.new) (answer job)) }
+    ensures answered { result.fault ≡ NodeFault.Nothing → IsAtEnd (R.left files.new) × HasAnswered (R.left files.old) (S.written out.old) (S.written out.new) }
 
     // Which fault, and what was written. A source or a sink is blamed only where its count of faults rose.
     ensures fault { ComesTo (map string_bytes words.now) (R.left files.old) (EndsWith result.fault (Rose (R.faults files.old) (R.faults files.new)) (Rose (S.faults out.old) (S.faults out.new))) }
