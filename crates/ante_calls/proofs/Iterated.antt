@@ -12,7 +12,7 @@ use Rattle.ante_types.specs.World.{World, used}
 use Rattle.ante_types.specs.Genesis.{eosio}
 use Rattle.ante_calls.specs.declared.faults.DbFault.{DbFault}
 use Rattle.ante_calls.specs.declared.faults.DbFault.TheVariants as fault
-use Rattle.ante_calls.specs.Iterators.{no_iterators}
+use Rattle.ante_itercache.specs.Iterators.{no_iterators}
 use Rattle.ante_calls.specs.Kinds.{primary_kind}
 use Rattle.ante_calls.specs.PrimaryCalls.{find_i64, get_i64}
 use Rattle.ante_calls.specs.Rows.{Answer, next, previous, store, update, remove}

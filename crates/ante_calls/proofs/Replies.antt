@@ -47,7 +47,7 @@ use Rattle.ante_calls.specs.Calls.{arg, arg32, signed_arg, name_arg, word, long,
 use Rattle.ante_calls.specs.Console.{prints_text}
 use Rattle.ante_calls.specs.ChainState.{limits_refusal, limit_arg, quota_set}
 use Rattle.ante_calls.specs.IndexCalls.{KeyForm, IndexRows, key64, key128, key256, index_kind, key_bytes, key_refusal, after_key, name_of, find_primary, find_secondary, lowerbound, upperbound, shows_key, shows_primary, shows_both, idx_bound, index_call}
-use Rattle.ante_calls.specs.Iterators.{live_row}
+use Rattle.ante_itercache.specs.Iterators.{live_row}
 use Rattle.ante_calls.specs.Kinds.{primary_kind}
 use Rattle.ante_calls.specs.MemoryCalls.{comparison}
 use Rattle.ante_calls.specs.Numbers.{Indexes, intrinsics, intrinsic_at, intrinsic}

@@ -1,9 +1,8 @@
--- To be read in this order: how a call is made up, what a run sees; iterators and what the calls on rows do; the other calls by subject; all
--- calls by their numbers.
+-- To be read in this order: how a call is made up, what a run sees; what the calls on rows do, with the iterators of `ante_itercache`; the other
+-- calls by subject; all calls by their numbers.
 pub mod Calls
 pub mod Accounts
 pub mod Views
-pub mod Iterators
 pub mod Kinds
 pub mod Rows
 pub mod RowReplies

@@ -12,7 +12,7 @@ use Rattle.ante_calls.specs.declared.calls.RowCall.{RowCall}
 use Rattle.ante_calls.specs.declared.calls.RowCall.TheVariants as calls
 use Rattle.ante_calls.specs.declared.faults.DbFault.TheVariants as fault
 use Rattle.ante_calls.specs.Calls.{arg, arg32, signed_arg, name_arg, range, bytes_from, shorter, refuses, replies, reading, paying}
-use Rattle.ante_calls.specs.Iterators.{live_row}
+use Rattle.ante_itercache.specs.Iterators.{live_row}
 use Rattle.ante_calls.specs.Kinds.{primary_kind}
 use Rattle.ante_calls.specs.Rows.{Answer, then_do, some_or, look_for, end, next, previous, store, update, remove}
 use Rattle.ante_calls.specs.RowReplies.{failure_of, answered, iterator_alone, no_answer, iterator_and_primary}

@@ -17,7 +17,7 @@ use Rattle.ante_store.specs.Changes.{after, refusal}
 use Rattle.ante_calls.specs.declared.faults.DbFault.{DbFault}
 use Rattle.ante_calls.specs.declared.faults.DbFault.TheVariants as fault
 use Rattle.ante_calls.specs.Accounts.{same_name, is_account, may_bill}
-use Rattle.ante_calls.specs.Iterators.{Iterators, no_iterator, meet_table, end_table, meet_row, live_row, row_removed}
+use Rattle.ante_itercache.specs.Iterators.{Iterators, no_iterator, meet_table, end_table, meet_row, live_row, row_removed}
 use Rattle.ante_calls.specs.Kinds.{Kind}
 use Rattle.ante_calls.specs.Views.{RowView}
 

@@ -2,7 +2,7 @@
 use Rattle.std.specs.Prelude.{ℕ, List}
 use Rattle.ante_types.specs.World.{World}
 use Rattle.ante_types.specs.declared.context.RunContext.{RunContext}
-use Rattle.ante_calls.specs.Iterators.{Iterators, no_iterators}
+use Rattle.ante_itercache.specs.Iterators.{Iterators, no_iterators}
 
 -- the iterators of each kind of row
 pub record Lists : Type 0 where

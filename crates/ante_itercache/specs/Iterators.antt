@@ -4,13 +4,9 @@ use Rattle.std.specs.Prelude.{ℕ, zero, suc, ◌+◌, ◌==◌, Bool, true, fal
 use Rattle.std.specs.Ordering.{eq_by_cmp}
 use Rattle.ante_pack.specs.declared.names.TableKey.{TableKey}
 use Rattle.ante_state.specs.Orders.{table_order}
+use Rattle.ante_itercache.specs.declared.met.MetRow.{MetRow}
 
--- a row that was met: it is live until it is removed
-pub record MetRow : Type 0 where
-  pub table : TableKey
-  pub primary : ℕ
-  pub live : Bool
-
+-- a row that was met (`MetRow`) is live until it is removed
 pub record Iterators : Type 0 where
   pub tables : List TableKey
   pub rows : List MetRow
