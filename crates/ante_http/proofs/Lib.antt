@@ -1,0 +1,5 @@
+pub mod Digits
+pub mod Stays
+pub mod OneCut
+pub mod Parsing
+pub mod Framed

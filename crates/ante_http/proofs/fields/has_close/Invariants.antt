@@ -1,0 +1,8 @@
+use Rattle.std.proofs.Common.{◌≡◌, drop, map}
+use Rattle.std.specs.List.{list_any}
+use Rattle.httparse.specs.Spans.{header_bytes}
+use Rattle.ante_http.specs.Fields.{is_close}
+use Rattle.ante_http.proofs.fields.has_close.Given as goal
+
+abbrev pub invariant-loop-field : goal.invariant-loop-field
+invariant-loop-field l = list_any is_close (map (header_bytes l.head) l.fields) ≡ list_any is_close (map (header_bytes l.head) (drop l.field-index l.fields))

@@ -1,0 +1,21 @@
+//! Laws of what bytes begin with.
+ghost use Rattle.std.specs.Prelude.{◌≡◌, ℕ, List, ◌++◌};
+ghost use Rattle.ante_http.specs.declared.answer.RequestSpan.{RequestSpan};
+ghost use Rattle.ante_http.specs.declared.answer.HeadKind.{HeadKind};
+ghost use Rattle.ante_http.specs.declared.answer.CutAnswer.{CutAnswer};
+ghost use Rattle.ante_http.specs.Requests.{IsRequest, IsBad, IsCut};
+
+/// Bytes have one answer.
+pub fn one_cut()
+    ensures { (bytes : List ℕ) (one other : CutAnswer) → IsCut bytes one → IsCut bytes other → one ≡ other }
+{}
+
+/// A request is found whatever bytes come after it.
+pub fn a_request_stays()
+    ensures { (bytes more : List ℕ) (request : RequestSpan) (n : ℕ) → IsRequest bytes request n → IsRequest (bytes ++ more) request n }
+{}
+
+/// Bad bytes are Bad in the same way whatever bytes come after them.
+pub fn bad_stays()
+    ensures { (bytes more : List ℕ) (kind : HeadKind) (n : ℕ) → IsBad bytes kind n → IsBad (bytes ++ more) kind n }
+{}
