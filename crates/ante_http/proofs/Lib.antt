@@ -3,3 +3,4 @@ pub mod Stays
 pub mod OneCut
 pub mod Parsing
 pub mod Framed
+pub mod Fronts

@@ -71,7 +71,7 @@ one_bad bytes k l m n (inr (inr x)) (inr (inr y)) =
     let e = one_head bytes m n x.0 y.0 x.1 y.1 in
     (err_is _ _ k l (same_body x.0 y.0 e.1) x.2 y.2, e.0)
 
-request_not_bad : (bytes : List ℕ) (r : RequestSpan) (m : ℕ) (kind : HeadKind) (n : ℕ) → IsRequest bytes r m → ¬ (IsBad bytes kind n)
+pub request_not_bad : (bytes : List ℕ) (r : RequestSpan) (m : ℕ) (kind : HeadKind) (n : ℕ) → IsRequest bytes r m → ¬ (IsBad bytes kind n)
 request_not_bad bytes r m kind n x = sound_not_bad bytes x.end x.count x.head x.has_head x.has_body kind n
 
 pub only_one : (bytes : List ℕ) (one other : CutAnswer) → IsCut bytes one → IsCut bytes other → one ≡ other

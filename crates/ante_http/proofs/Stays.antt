@@ -19,14 +19,14 @@ leading-append (x ∷ a) b h =
     ] in
     k (is_line_end_byte x) h
 
-ends-append : (a b : List ℕ) (from i : ℕ) → i < length a → ends_at (a ++ b) from i ≡ ends_at a from i
+pub ends-append : (a b : List ℕ) (from i : ℕ) → i < length a → ends_at (a ++ b) from i ≡ ends_at a from i
 ends-append a b from i h =
     let p = get_or_append_left a b 0 i h in
     let q = get_or_append_left a b 0 (i - 1) (omega arith) in
     let r = get_or_append_left a b 0 (i - 2) (omega arith) in
     rw (p, q, r) refl
 
-from_below : (a : List ℕ) (from i : ℕ) → ends_at a from i ≡ true → from < i
+pub from_below : (a : List ℕ) (from i : ℕ) → ends_at a from i ≡ true → from < i
 from_below a from i e = grind (arith, nat_tests)
 
 end-append : (a b : List ℕ) (end : ℕ) → IsHeadEnd a end → IsHeadEnd (a ++ b) end
@@ -43,7 +43,7 @@ end-append a b end h =
     }
 
 -- the front of a longer list begins with the front of the list
-take-more : (n : ℕ) (xs ys : List ℕ) → (more : List ℕ) × (take n (xs ++ ys) ≡ take n xs ++ more)
+pub take-more : (n : ℕ) (xs ys : List ℕ) → (more : List ℕ) × (take n (xs ++ ys) ≡ take n xs ++ more)
 take-more zero xs ys = ([], refl)
 take-more (suc n) [] ys = (take (suc n) ys, refl)
 take-more (suc n) (x ∷ xs) ys = let t = take-more n xs ys in (t.0, ap (λ (l : List ℕ). x ∷ l) t.1)
