@@ -4,3 +4,4 @@ pub mod OneCut
 pub mod Parsing
 pub mod Framed
 pub mod Fronts
+pub mod Parts

@@ -50,6 +50,11 @@ pub record IsRequest (bytes : List ℕ) (request : RequestSpan) (n : ℕ) : Type
   pub is_length : n ≡ end + count
   pub whole : n ≤ length bytes
 
+-- The target lies in the head, and the body follows it and ends with the request.
+abbrev pub HasPartsWithin : List ℕ → RequestSpan → ℕ → Type 0
+HasPartsWithin bytes r n =
+    (r.target.start ≤ r.target.end) × (r.target.end ≤ r.body.start) × (r.body.start ≤ r.body.end) × (r.body.end ≡ n) × (n ≤ length bytes)
+
 -- No head ends soon enough; or one ends there, which is no head, or is one with a fault. n counts the bytes that were looked at.
 abbrev pub IsBad : List ℕ → HeadKind → ℕ → Type 0
 IsBad bytes kind n =

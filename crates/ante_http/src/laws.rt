@@ -4,7 +4,7 @@ ghost use Rattle.ante_http.specs.declared.answer.RequestSpan.{RequestSpan};
 ghost use Rattle.ante_http.specs.declared.answer.HeadKind.{HeadKind};
 ghost use Rattle.ante_http.specs.declared.answer.CutAnswer.{CutAnswer};
 ghost use Rattle.ante_http.specs.declared.answer.CutAnswer.TheVariants.{Need};
-ghost use Rattle.ante_http.specs.Requests.{IsRequest, IsBad, IsCut};
+ghost use Rattle.ante_http.specs.Requests.{IsRequest, HasPartsWithin, IsBad, IsCut};
 
 /// Bytes have one answer.
 pub fn one_cut()
@@ -29,4 +29,9 @@ pub fn a_request_is_its_bytes()
 /// Each front of a request that lacks a byte needs more.
 pub fn fronts_need_more()
     ensures { (bytes more : List ℕ) (request : RequestSpan) (n : ℕ) → length bytes < n → IsRequest (bytes ++ more) request n → IsCut bytes Need }
+{}
+
+/// The parts of a request lie within its bytes, and the body is their end.
+pub fn parts_lie_within()
+    ensures { (bytes : List ℕ) (request : RequestSpan) (n : ℕ) → IsRequest bytes request n → HasPartsWithin bytes request n }
 {}
