@@ -1,8 +1,10 @@
 -- What the steps of reading a head answer.
-use Rattle.std.specs.Prelude.{◌≡◌, ℕ, ◌+◌, ◌-◌, ◌<◌, ◌≤◌, Bool, List, Result, Ok, Err}
+use Rattle.std.specs.Prelude.{◌≡◌, ℕ, ◌+◌, ◌-◌, ◌<◌, ◌≤◌, Bool, List, map, Result, Ok, Err}
 use Rattle.httparse.specs.Grammar.{RequestHead}
 use Rattle.httparse.specs.declared.spans.Span.{Span}
+use Rattle.httparse.specs.declared.spans.HeaderSpan.{HeaderSpan}
 use Rattle.httparse.specs.declared.spans.RequestSpans.{RequestSpans}
+use Rattle.httparse.specs.Spans.{span_bytes, header_bytes}
 use Rattle.ante_http.specs.declared.answer.HeadKind.{HeadKind}
 use Rattle.ante_http.specs.HeadEnds.{leading}
 use Rattle.ante_http.specs.declared.answer.CutAnswer.{CutAnswer}
@@ -26,6 +28,10 @@ reading_with (Ok count) target close = Framed (record { target = target; body_le
 -- what a head of these parts reads as
 abbrev pub reading : List ℕ → Span → ℕ → List (List ℕ × List ℕ) → HeadReading
 reading method target minor fields = reading_with (body_length method fields) target (closes minor fields)
+
+-- the same of the parts that the parser found
+abbrev pub reading_at : List ℕ → RequestSpans → List HeaderSpan → HeadReading
+reading_at bytes spans fields = reading (span_bytes bytes spans.method) (target_at bytes spans) spans.version (map (header_bytes bytes) fields)
 
 -- These bytes are no head, one with a fault, or one with this framing.
 abbrev pub IsHeadReading : List ℕ → HeadReading → Type 0

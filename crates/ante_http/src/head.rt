@@ -1,9 +1,9 @@
-ghost use Rattle.std.specs.Prelude.{◌≡◌, ◌<◌, ◌≤◌, length, map, IfSome, IfNone};
+ghost use Rattle.std.specs.Prelude.{◌≡◌, ◌<◌, ◌≤◌, length, IfSome, IfNone};
 ghost use Rattle.std.specs.List.{All};
-ghost use Rattle.httparse.specs.Spans.{IsHeaderWithin, IsWithin, span_bytes, header_bytes};
+ghost use Rattle.httparse.specs.Spans.{IsHeaderWithin, IsWithin};
 ghost use Rattle.ante_http.specs.HeadEnds.{leading, ends_at, IsHeadEnd, HasNoHeadEnd};
 ghost use Rattle.ante_http.specs.Limits.{most_head_bytes};
-ghost use Rattle.ante_http.specs.Reading.{IsHeadReading, reading, target_at};
+ghost use Rattle.ante_http.specs.Reading.{IsHeadReading, reading_at, target_at};
 
 use crate::answer::HeadKind;
 use crate::fields::{body_length, closes};
@@ -92,7 +92,7 @@ fn read_framing(head: &[u8], spans: &RequestSpans, fields: &[HeaderSpan]) -> Hea
     requires method { IsWithin (length head.now) spans.now.method }
     requires target { IsWithin (length head.now) spans.now.path }
     requires fields { All (IsHeaderWithin (length head.now)) fields.now }
-    ensures { result ≡ reading (span_bytes head.now spans.now.method) (target_at head.now spans.now) spans.now.version (map (header_bytes head.now) fields.now) }
+    ensures { result ≡ reading_at head.now spans.now fields.now }
 {
     let target = target_at(head, spans);
     match body_length(head, spans.method.of(head), fields) {
