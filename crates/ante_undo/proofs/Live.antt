@@ -1,5 +1,5 @@
 -- What the slots hold, and what becomes of the map when a slot changes.
-use Rattle.std.proofs.Common.{◌≡◌, ℕ, ◌+◌, Bool, true, false, cond, ◌||◌, nat_lt, T, List, [], ◌∷◌, is_some, Option, Some, None, refl, sym, ap, subst, ◌∙◌, Ordering, Less, Equal, Greater, is_lt, is_eq, arith}
+use Rattle.std.proofs.Common.{◌≡◌, ℕ, ◌+◌, ◌-◌, Bool, true, false, true≢false, cond, not, ◌||◌, nat_lt, T, List, [], ◌∷◌, is_some, Option, Some, None, refl, sym, ap, subst, ◌∙◌, Ordering, Less, Equal, Greater, is_lt, is_eq, arith}
 use Rattle.std.specs.Ordering.{ordering_reverse, eq_by_cmp}
 use Rattle.std.specs.Option.{option_and_then, option_map_or}
 use Rattle.std.specs.Cmp.{IsTotalOrder}
@@ -69,6 +69,25 @@ module _ {K V : Type 0} (cmp : K → K → Ordering) where
       slot_at cmp q new ≡ cond (eq_by_cmp cmp k q) (Some (record { value = v; mentions = 1 })) (slot_at cmp q old) → slot_at cmp q new ≡ cond (eq_by_cmp cmp k q) (slot_of v (mentions_at cmp k old + 1)) (slot_at cmp q old)
   first_named old new k v q none step =
       step ∙ ap (λ s. cond (eq_by_cmp cmp k q) s (slot_at cmp q old)) (once v ∙ ap (λ (o : Option (Slot V)). slot_of v (option_map_or (λ s. s.mentions) o 0 + 1)) (sym none))
+
+  -- a slot that a mention has left: it goes where nothing is left of it, and else stays
+  module _ (k : K) (old : List (K × Slot V)) (s left : Slot V) (v : Option V) (found : Some s ≡ slot_at cmp k old) (is : left ≡ record { value = v; mentions = s.mentions - 1 }) where
+    left_slot : slot_of left.value left.mentions ≡ slot_of v (mentions_at cmp k old - 1)
+    left_slot = ap (λ (l : Slot V). slot_of l.value l.mentions) is ∙ ap (λ (o : Option (Slot V)). slot_of v (option_map_or (λ s. s.mentions) o 0 - 1)) found
+
+    pub left_out : (q : K) (o : Option (Slot V)) → not (is_some left.value || nat_lt 0 left.mentions) ≡ true → o ≡ cond (eq_by_cmp cmp k q) None (slot_at cmp q old) → o ≡ cond (eq_by_cmp cmp k q) (slot_of v (mentions_at cmp k old - 1)) (slot_at cmp q old)
+    left_out q o spent step = step ∙ ap (λ w. cond (eq_by_cmp cmp k q) w (slot_at cmp q old)) (gone (is_some left.value || nat_lt 0 left.mentions) spent ∙ left_slot)
+      where
+        gone : (b : Bool) → not b ≡ true → None ≡ cond b (Some left) None
+        gone true h = absurd (true≢false (sym h))
+        gone false h = refl
+
+    pub left_in : (q : K) (o : Option (Slot V)) → not (is_some left.value || nat_lt 0 left.mentions) ≡ false → o ≡ cond (eq_by_cmp cmp k q) (Some left) (slot_at cmp q old) → o ≡ cond (eq_by_cmp cmp k q) (slot_of v (mentions_at cmp k old - 1)) (slot_at cmp q old)
+    left_in q o kept step = step ∙ ap (λ w. cond (eq_by_cmp cmp k q) w (slot_at cmp q old)) (stays (is_some left.value || nat_lt 0 left.mentions) kept ∙ left_slot)
+      where
+        stays : (b : Bool) → not b ≡ false → Some left ≡ cond b (Some left) None
+        stays true h = refl
+        stays false h = absurd (true≢false h)
 
   module _ (k : K) (v : Option V) (n : ℕ) (old new : List (K × Slot V)) (sets : Sets cmp k v n old new) where
     pub values_set : (q : K) → value_at cmp q new ≡ cond (eq_by_cmp cmp k q) v (value_at cmp q old)

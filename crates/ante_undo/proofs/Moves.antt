@@ -7,7 +7,7 @@ use Rattle.std.specs.Map.{keys_of}
 use Rattle.std.specs.FinMap.{IsAntisymmetric}
 use Rattle.ante_undo.specs.declared.slots.Slot.{Slot}
 use Rattle.ante_undo.specs.Entries.{changed}
-use Rattle.ante_undo.specs.Slots.{live, value_at, mentions_at, Sets}
+use Rattle.ante_undo.specs.Slots.{live, value_at, mentions_at, Sets, Unnames}
 use Rattle.ante_undo.specs.Logs.{one_if, named_in, taken_back, Stays, IsMoved, named_in_all, taken_back_all, maps_under, maps_over, IsTurned, AreMoved, Releases}
 use Rattle.ante_undo.proofs.Entries.{equal}
 use Rattle.ante_undo.proofs.Live.{values_set, mentions_set, tidy_set, find_live, sorted_live, same_live, live_changed, changed_back}
@@ -54,15 +54,21 @@ module _ {K V : Type 0} {cmp : K → K → Ordering} (o : IsTotalOrder cmp) wher
           lengths = let front_parts = length_append front (c ∷ []) in let to_parts = length_append to ((c.0, value_at cmp c.0 es) ∷ []) in omega arith;
         }
 
-    module _ (k : K) (sets : Sets cmp k (value_at cmp k es) (mentions_at cmp k es - 1) es fs) where
-      -- the map stays where a mention is let go
-      pub forgotten_live : live fs ≡ live es
-      forgotten_live = same_live cmp o exact fs es t s (λ q. values_set cmp k (value_at cmp k es) (mentions_at cmp k es - 1) es fs sets q ∙ same_at exact (λ x. value_at cmp x es) k q)
+    -- the map stays where a mention is let go
+    pub forgotten_live : (k : K) → Unnames cmp k (value_at cmp k es) es fs → live fs ≡ live es
+    forgotten_live k sets = same_live cmp o exact fs es t s (λ q. values_set cmp k (value_at cmp k es) (mentions_at cmp k es - 1) es fs sets q ∙ same_at exact (λ x. value_at cmp x es) k q)
 
+    -- an entry of a log is taken back, and its mention let go
+    pub back_entry : (front : List (K × Option V)) (c : K × Option V) → Unnames cmp c.0 c.1 es fs → taken_back cmp (live fs) front ≡ taken_back cmp (live es) (front ++ c ∷ [])
+    back_entry front c sets =
+        ap (λ m. taken_back cmp m front) (live_changed cmp o exact es fs c.0 c.1 s t (values_set cmp c.0 c.1 (mentions_at cmp c.0 es - 1) es fs sets))
+        ∙ sym (back_append cmp (live es) front (c ∷ []))
+
+    module _ (k : K) (v : Option V) (sets : Unnames cmp k v es fs) where
       pub forgotten : 0 < mentions_at cmp k es → Releases cmp es fs (λ q. one_if (eq_by_cmp cmp k q)) (λ q. 0)
       forgotten named = record {
-        mentions = λ q. ap (λ n. n + one_if (eq_by_cmp cmp k q)) (mentions_set cmp k (value_at cmp k es) (mentions_at cmp k es - 1) es fs sets q) ∙ by_test q;
-        tidy = tidy_set cmp k (value_at cmp k es) (mentions_at cmp k es - 1) es fs sets;
+        mentions = λ q. ap (λ n. n + one_if (eq_by_cmp cmp k q)) (mentions_set cmp k v (mentions_at cmp k es - 1) es fs sets q) ∙ by_test q;
+        tidy = tidy_set cmp k v (mentions_at cmp k es - 1) es fs sets;
       }
         where
           by_test : (q : K) → cond (eq_by_cmp cmp k q) (mentions_at cmp k es - 1) (mentions_at cmp q es) + one_if (eq_by_cmp cmp k q) ≡ mentions_at cmp q es + 0
@@ -139,15 +145,11 @@ module _ {K V : Type 0} {cmp : K → K → Ordering} where
       let named : named_in cmp c.0 left ≤ mentions_at cmp c.0 _ = left_named p c.0 within in
       omega arith
 
-  pub turned_released : {old es fs : List (K × Slot V)} {log log' : List (K × Option V)} → IsTurned cmp old log es log' → Releases cmp es fs (λ q. named_in cmp q log') (λ q. 0) → Releases cmp old fs (λ q. named_in cmp q log) (λ q. 0)
-  turned_released {old = old} {es = es} {fs = fs} {log = log} {log' = log'} t r = record {
-    mentions = λ q.
-        let less : mentions_at cmp q fs + named_in cmp q log' ≡ mentions_at cmp q es + 0 = r.mentions q in
-        let same = t.stays.mentions q in
-        let named = t.named q in
-        omega arith;
-    tidy = λ h. r.tidy (t.stays.tidy h);
-  }
+  pub last_left : IsTotalOrder cmp → {old es : List (K × Slot V)} {before : K → ℕ} {left : List (K × Option V)} (front : List (K × Option V)) (c : K × Option V) → left ≡ front ++ c ∷ [] → Releases cmp old es before (λ q. named_in cmp q left) → before c.0 ≤ mentions_at cmp c.0 old → 0 < mentions_at cmp c.0 es
+  last_left o {left = left} front c is p within =
+      let some = subst (λ l. 0 < named_in cmp c.0 l) (sym is) (named_last o front c) in
+      let named : named_in cmp c.0 left ≤ mentions_at cmp c.0 _ = left_named p c.0 within in
+      omega arith
 
   -- a session that is taken back is moved to the other list
   pub moved_session : {es fs : List (K × Slot V)} {log log' : List (K × Option V)} (rest to : List (List (K × Option V))) → IsTurned cmp es log fs log' → AreMoved cmp es (rest ++ log ∷ []) to fs rest (to ++ log' ∷ [])
@@ -191,6 +193,12 @@ module _ {K V : Type 0} (cmp : K → K → Ordering) where
   split_last q rest log is =
       let split = ap (named_in_all cmp q) is in
       let parts = named_append_all cmp q rest (log ∷ []) in
+      omega arith
+
+  pub split_entry : (q : K) {log : List (K × Option V)} (front : List (K × Option V)) (c : K × Option V) → log ≡ front ++ c ∷ [] → named_in cmp q log ≡ one_if (eq_by_cmp cmp c.0 q) + named_in cmp q front
+  split_entry q front c is =
+      let split = ap (named_in cmp q) is in
+      let parts = named_append cmp q front (c ∷ []) in
       omega arith
 
   pub last_named : (es : List (K × Slot V)) {logs : List (List (K × Option V))} (rest : List (List (K × Option V))) (log : List (K × Option V)) → logs ≡ rest ++ log ∷ [] → (q : K) → named_in_all cmp q logs ≤ mentions_at cmp q es → named_in cmp q log ≤ mentions_at cmp q es

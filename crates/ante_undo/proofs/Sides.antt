@@ -6,7 +6,7 @@ use Rattle.std.specs.Ordering.{ordering_reverse, is_le, is_ge, eq_by_cmp}
 use Rattle.std.specs.Cmp.{IsTotalOrder}
 use Rattle.std.specs.FinMap.Entries.{find}
 use Rattle.ante_undo.specs.declared.slots.Slot.{Slot}
-use Rattle.ante_undo.specs.Entries.{first_where, last_where, first_entry, last_entry, entry_from, entry_after, entry_before}
+use Rattle.ante_undo.specs.Entries.{first_where, last_where, first_entry, last_entry, entry_from, entry_after, entry_before, entry_up_to}
 use Rattle.ante_undo.specs.Slots.{with_value, live}
 use Rattle.ante_undo.specs.Logs.{taken_back}
 use Rattle.ante_undo.proofs.Entries.{find_changed}
@@ -108,6 +108,11 @@ before_side Less = refl
 before_side Equal = refl
 before_side Greater = refl
 
+up_to_side : (r : Ordering) → (true && not (is_lt r)) ≡ is_le (ordering_reverse r)
+up_to_side Less = refl
+up_to_side Equal = refl
+up_to_side Greater = refl
+
 module _ {K V : Type 0} (cmp : K → K → Ordering) (o : IsTotalOrder cmp) where
   pub entry_from_slots : (key : K) (es : List (K × Slot V)) → first_entry (live (filter (λ e. is_le (cmp key e.0) && not false) es)) ≡ entry_from cmp key (live es)
   entry_from_slots key es = first_passed (λ x. is_le (cmp key x) && not false) (λ x. is_ge (cmp x key)) (λ x. from_side (cmp key x) ∙ ap is_ge (sym (o.antisymm x key))) es
@@ -117,6 +122,9 @@ module _ {K V : Type 0} (cmp : K → K → Ordering) (o : IsTotalOrder cmp) wher
 
   pub entry_before_slots : (key : K) (es : List (K × Slot V)) → last_entry (live (filter (λ e. true && not (is_le (cmp key e.0))) es)) ≡ entry_before cmp key (live es)
   entry_before_slots key es = last_passed (λ x. true && not (is_le (cmp key x))) (λ x. is_lt (cmp x key)) (λ x. before_side (cmp key x) ∙ ap is_lt (sym (o.antisymm x key))) es
+
+  pub entry_up_to_slots : (key : K) (es : List (K × Slot V)) → last_entry (live (filter (λ e. true && not (is_lt (cmp key e.0))) es)) ≡ entry_up_to cmp key (live es)
+  entry_up_to_slots key es = last_passed (λ x. true && not (is_lt (cmp key x))) (λ x. is_le (cmp x key)) (λ x. up_to_side (cmp key x) ∙ ap is_le (sym (o.antisymm x key))) es
 
   -- what taking an entry back leaves at a key
   pub found_back : (q : K) (m : List (K × V)) (c : K × Option V) (log : List (K × Option V)) → find cmp q (taken_back cmp m (c ∷ log)) ≡ cond (eq_by_cmp cmp q c.0) c.1 (find cmp q (taken_back cmp m log))

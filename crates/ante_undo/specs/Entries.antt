@@ -2,7 +2,7 @@
 use Rattle.std.specs.Prelude.{Bool, not, List, [], ◌∷◌, Option, Some, None, if◌then◌else◌}
 use Rattle.std.specs.declared.cmp.Ordering.{Ordering}
 use Rattle.std.specs.Option.{option_or}
-use Rattle.std.specs.Ordering.{is_lt, is_gt, is_ge, eq_by_cmp}
+use Rattle.std.specs.Ordering.{is_lt, is_le, is_gt, is_ge, eq_by_cmp}
 use Rattle.std.specs.FinMap.Entries.{by_order, where_key}
 
 module _ {K V : Type 0} where
@@ -54,3 +54,7 @@ module _ {K V : Type 0} (cmp : K → K → Ordering) where
   -- the entry with the greatest key below the key
   abbrev pub entry_before : K → List (K × V) → Option (K × V)
   entry_before key = last_where (λ x. is_lt (cmp x key))
+
+  -- the entry with the greatest key that is not above the key
+  abbrev pub entry_up_to : K → List (K × V) → Option (K × V)
+  entry_up_to key = last_where (λ x. is_le (cmp x key))

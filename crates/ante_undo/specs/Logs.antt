@@ -1,8 +1,9 @@
 -- The logs of the sessions: what they make of a map, and how often they name a key. A log's entries are keys, each with the
 -- value that stands there once the entry is taken back, or with none.
-use Rattle.std.specs.Prelude.{◌≡◌, ℕ, ◌+◌, ◌||◌, nat_lt, Bool, true, false, List, [], ◌∷◌, ◌++◌, length, is_some, Option}
+use Rattle.std.specs.Prelude.{◌≡◌, ℕ, ◌+◌, ◌||◌, nat_lt, not, IsTrue, Bool, true, false, List, [], ◌∷◌, ◌++◌, length, is_some, Option}
 use Rattle.std.specs.declared.cmp.Ordering.{Ordering}
 use Rattle.std.specs.Ordering.{eq_by_cmp}
+use Rattle.std.specs.List.{list_any}
 use Rattle.ante_undo.specs.declared.slots.Slot.{Slot}
 use Rattle.ante_undo.specs.Entries.{changed}
 use Rattle.ante_undo.specs.Slots.{live, slot_at, value_at, mentions_at}
@@ -38,6 +39,10 @@ module _ {K V : Type 0} (cmp : K → K → Ordering) where
   abbrev pub named_in_all : K → List (List (K × Option V)) → ℕ
   named_in_all key [] = 0
   named_in_all key (log ∷ logs) = named_in key log + named_in_all key logs
+
+  -- no entry of the log names the key
+  abbrev pub IsUnnamed : K → List (K × Option V) → Type 0
+  IsUnnamed key log = IsTrue (not (list_any (λ c. eq_by_cmp cmp key c.0) log))
 
   -- the map once a log is taken back, the last entry first
   abbrev pub taken_back : List (K × V) → List (K × Option V) → List (K × V)

@@ -1,5 +1,5 @@
 -- How a map with sessions is kept: a slot for each key that has a value or that a log names.
-use Rattle.std.specs.Prelude.{◌≡◌, ℕ, ◌||◌, nat_lt, List, [], ◌∷◌, Option, Some, None, is_some, cond, if◌then◌else◌}
+use Rattle.std.specs.Prelude.{◌≡◌, ℕ, ◌+◌, ◌-◌, ◌||◌, nat_lt, List, [], ◌∷◌, Option, Some, None, is_some, cond, if◌then◌else◌}
 use Rattle.std.specs.declared.cmp.Ordering.{Ordering}
 use Rattle.std.specs.Option.{option_and_then, option_map_or}
 use Rattle.std.specs.Ordering.{eq_by_cmp}
@@ -35,3 +35,10 @@ module _ {K V : Type 0} (cmp : K → K → Ordering) where
   -- the key has got the value and as many mentions, and the other slots stay
   abbrev pub Sets : K → Option V → ℕ → List (K × Slot V) → List (K × Slot V) → Type 0
   Sets key value mentions old new = (q : K) → slot_at q new ≡ cond (eq_by_cmp cmp key q) (slot_of value mentions) (slot_at q old)
+
+  -- the same, and the key is mentioned once more, or once less
+  abbrev pub Names : K → Option V → List (K × Slot V) → List (K × Slot V) → Type 0
+  Names key value old new = Sets key value (mentions_at key old + 1) old new
+
+  abbrev pub Unnames : K → Option V → List (K × Slot V) → List (K × Slot V) → Type 0
+  Unnames key value old new = Sets key value (mentions_at key old - 1) old new

@@ -2,18 +2,16 @@ ghost use Rattle.std.specs.Prelude.{◌≡◌, ℕ, ◌+◌, ◌-◌, ◌*◌, �
 ghost use Rattle.std.specs.Option.{option_copied, option_map};
 ghost use Rattle.std.specs.Map.Iter.{deref_pair};
 ghost use Rattle.std.specs.FinMap.Entries.{find, is_sorted};
-ghost use Rattle.std.specs.List.{list_any};
-ghost use Rattle.std.specs.Ordering.{eq_by_cmp};
 ghost use Rattle.std.specs.FinMap.{IsAntisymmetric};
-ghost use Rattle.ante_undo.specs.Logs.{taken_back};
-ghost use Rattle.ante_undo.specs.Entries.{changed, entry_from, entry_after, entry_before, first_entry, last_entry};
+ghost use Rattle.ante_undo.specs.Logs.{taken_back, IsUnnamed};
+ghost use Rattle.ante_undo.specs.Entries.{changed, entry_from, entry_after, entry_before, entry_up_to, first_entry, last_entry};
 ghost use Rattle.ante_undo.specs.Stack.{opened, with_top, begun, committed, under_top, IsSquashed, without_shelf, IsShelved, IsUnshelved, IsAbove, IsSound};
 
 use crate::logs::{
     Aside, Logs, close, join_last, log_change, move_sessions, newest, replaced_at, undo_all,
     undo_log,
 };
-use crate::neighbours::{after, at_or_after, before, first, last};
+use crate::neighbours::{after, at_or_after, at_or_before, before, first, last};
 use crate::slots::{Slots, set, value_of};
 use std::alloc::{AllocError, Global};
 use std::collections::{BTreeMap, LinkedList};
@@ -34,8 +32,8 @@ const MOST_CHANGES: u64 = 0x7fff_ffff_ffff_ffff;
 /// changed. No other call takes any: values are exchanged between the map and the logs where they lie.
 ///
 /// A key that was removed keeps its place while a session or the shelf could bring it back, and
-/// leaves the map once none can. `at_or_after`, `after`, `before`, `first` and `last` step over such
-/// places: these are at most as many as there are changes in the open sessions and on the shelf.
+/// leaves the map once none can. `at_or_after`, `after`, `before`, `at_or_before`, `first` and `last`
+/// step over such places: these are at most as many as there are changes in the open sessions and on the shelf.
 #[derive(Drop)]
 pub struct Layered<K: Ord + Copy, V: Drop> {
     // A slot for each key that has a value or that a log names.
@@ -106,6 +104,14 @@ impl<K: Ord + Copy, V: Drop> Layered<K, V> {
         ensures ordered { IsTrue (is_sorted K.cmp self.now.top) }
     {
         before(&self.slots, key)
+    }
+
+    /// The entry with the greatest key that is not above the given one.
+    pub fn at_or_before(&self, key: &K) -> Option<(&K, &V)>
+        ensures nearest { option_map deref_pair result ≡ entry_up_to K.cmp key.now self.now.top }
+        ensures ordered { IsTrue (is_sorted K.cmp self.now.top) }
+    {
+        at_or_before(&self.slots, key)
     }
 
     /// The entry with the least key.
@@ -311,7 +317,7 @@ impl<K: Ord + Copy, V: Drop> Layered<K, V> {
     pub fn replaced(&self) -> &LinkedList<(K, Option<V>)>
         requires session { 0 < length self.now.under }
         ensures under { taken_back K.cmp self.now.top result.now ≡ under_top self.now }
-        ensures unchanged { (key : K) → IsTrue (not (list_any (λ c. eq_by_cmp K.cmp key c.0) result.now)) → find K.cmp key self.now.top ≡ find K.cmp key (under_top self.now) }
+        ensures unchanged { (key : K) → IsUnnamed K.cmp key result.now → find K.cmp key self.now.top ≡ find K.cmp key (under_top self.now) }
     {
         match newest(&self.logs, &self.shelf) {
             Some(log) => log,

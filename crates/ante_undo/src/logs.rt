@@ -6,10 +6,10 @@ ghost use Rattle.std.specs.FinMap.Entries.{find};
 ghost use Rattle.ante_undo.specs.Kept.{below_of};
 ghost use Rattle.std.specs.FinMap.{IsAntisymmetric};
 ghost use Rattle.std.specs.BTreeMap.{IsOrdered};
-ghost use Rattle.ante_undo.specs.Slots.{live, value_at, mentions_at, Sets};
+ghost use Rattle.ante_undo.specs.Slots.{live, value_at, mentions_at, Names};
 ghost use Rattle.ante_undo.specs.Logs.{total, CutsLast, AddsEntry, AddsLog, named_in, named_in_all, taken_back, taken_back_all, IsMoved, IsTurned, AreMoved, Releases};
 
-use crate::slots::{Change, Slots, enter, exchange, forget};
+use crate::slots::{Change, Slots, enter, exchange, forget, take_back};
 use std::collections::LinkedList;
 
 // The entries of a session, the oldest first. On the shelf the newest comes first.
@@ -89,7 +89,7 @@ pub(crate) fn release<K: Ord + Copy, V: Drop>(slots: &mut Slots<K, V>, mut log: 
     ensures ordered { IsOrdered K.cmp slots.new }
 {
     while let Some(change) = log.pop_front() {
-        forget(slots, &change.0);
+        forget(slots, change.0);
     }
 }
 
@@ -102,8 +102,9 @@ pub(crate) fn undo_log<K: Ord + Copy, V: Drop>(slots: &mut Slots<K, V>, mut log:
     ensures released { Releases K.cmp slots.old.entries slots.new.entries (λ q. named_in K.cmp q log) (λ q. 0) }
     ensures ordered { IsOrdered K.cmp slots.new }
 {
-    turn(slots, &mut log);
-    release(slots, log);
+    while let Some(change) = log.pop_back() {
+        take_back(slots, change);
+    }
 }
 
 // Takes several logs back for good, the last one first.
@@ -198,7 +199,7 @@ pub(crate) fn log_change<K: Ord + Copy, V: Drop>(
     requires some { 0 < length logs.old }
     requires room { mentions_at K.cmp change.0 slots.old.entries < 2 ^ 63 }
     ensures logs { OnOk result (AddsEntry (change.0, value_at K.cmp change.0 slots.old.entries) logs.old logs.new) }
-    ensures slots { OnOk result (Sets K.cmp change.0 change.1 (mentions_at K.cmp change.0 slots.old.entries + 1) slots.old.entries slots.new.entries) }
+    ensures slots { OnOk result (Names K.cmp change.0 change.1 slots.old.entries slots.new.entries) }
     ensures err { OnErr result (slots.new.entries ≡ slots.old.entries) }
     ensures kept { OnErr result (logs.new ≡ logs.old) }
     ensures back { IfErr result (λ value. value ≡ change.1) }
@@ -218,7 +219,7 @@ fn add_entry<K: Ord + Copy, V: Drop>(
 ) -> Result<(), Option<V>>
     requires room { mentions_at K.cmp change.0 slots.old.entries < 2 ^ 63 }
     ensures log { OnOk result (log.new ≡ log.old ++ (change.0, value_at K.cmp change.0 slots.old.entries) ∷ []) }
-    ensures slots { OnOk result (Sets K.cmp change.0 change.1 (mentions_at K.cmp change.0 slots.old.entries + 1) slots.old.entries slots.new.entries) }
+    ensures slots { OnOk result (Names K.cmp change.0 change.1 slots.old.entries slots.new.entries) }
     ensures err { OnErr result (slots.new.entries ≡ slots.old.entries) }
     ensures kept { OnErr result (log.new ≡ log.old) }
     ensures back { IfErr result (λ value. value ≡ change.1) }

@@ -3,7 +3,7 @@ ghost use Rattle.std.specs.Prelude.{◌≡◌, IsTrue, [], ◌∷◌};
 ghost use Rattle.std.specs.Option.{option_map};
 ghost use Rattle.std.specs.Map.Iter.{deref_pair};
 ghost use Rattle.std.specs.BTreeMap.{IsOrdered};
-ghost use Rattle.ante_undo.specs.Entries.{entry_from, entry_after, entry_before, first_entry, last_entry};
+ghost use Rattle.ante_undo.specs.Entries.{entry_from, entry_after, entry_before, entry_up_to, first_entry, last_entry};
 ghost use Rattle.ante_undo.specs.Slots.{live};
 
 use crate::slots::{Slot, Slots};
@@ -41,6 +41,17 @@ pub(crate) fn before<'a, K: Ord + Copy, V: Drop>(
     ensures ordered { IsOrdered K.cmp slots.now }
 {
     last_live(slots.range((Bound::Unbounded, Bound::Excluded(*key))))
+}
+
+// The entry with the greatest key that is not above the given one.
+pub(crate) fn at_or_before<'a, K: Ord + Copy, V: Drop>(
+    slots: &'a Slots<K, V>,
+    key: &K,
+) -> Option<(&'a K, &'a V)>
+    ensures nearest { option_map deref_pair result ≡ entry_up_to K.cmp key.now (live slots.now.entries) }
+    ensures ordered { IsOrdered K.cmp slots.now }
+{
+    last_live(slots.range((Bound::Unbounded, Bound::Included(*key))))
 }
 
 // The entry with the least key.

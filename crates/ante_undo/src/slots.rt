@@ -2,10 +2,11 @@
 ghost use Rattle.std.specs.Prelude.{◌≡◌, ◌||◌, nat_lt, not, is_some, ◌+◌, ◌-◌, ◌^◌, ◌<◌, OnOk, OnErr, IfErr, Some, None};
 ghost use Rattle.std.specs.Option.{option_copied};
 ghost use Rattle.std.specs.BTreeMap.{IsOrdered};
-ghost use Rattle.ante_undo.specs.Slots.{slot_of, value_at, mentions_at, Sets};
+ghost use Rattle.ante_undo.specs.Slots.{slot_of, value_at, mentions_at, Sets, Names, Unnames};
 
 use std::alloc::AllocError;
 use std::collections::BTreeMap;
+use std::collections::btree_map::Entry;
 use std::mem::swap;
 
 // What the map knows of a key.
@@ -27,9 +28,13 @@ impl<V> Slot<V> {
         self.mentions += 1;
     }
 
-    fn is_spent(&self) -> bool
-        ensures { result ≡ not (is_some self.now.value || nat_lt 0 self.now.mentions) }
+    // Counts one mention less, and says whether nothing is left.
+    fn leave(&mut self) -> bool
+        requires named { 0 < self.old.mentions }
+        ensures slot { self.new ≡ record { value = self.old.value; mentions = self.old.mentions - 1 } }
+        ensures spent { result ≡ not (is_some self.new.value || nat_lt 0 self.new.mentions) }
     {
+        self.mentions -= 1;
         self.value.is_none() && self.mentions == 0
     }
 }
@@ -45,7 +50,7 @@ pub(crate) fn enter<K: Ord + Copy, V: Drop>(
     change: &mut Change<K, V>,
 ) -> Result<(), AllocError>
     requires room { mentions_at K.cmp change.old.0 slots.old.entries < 2 ^ 63 }
-    ensures slots { OnOk result (Sets K.cmp change.old.0 change.old.1 (mentions_at K.cmp change.old.0 slots.old.entries + 1) slots.old.entries slots.new.entries) }
+    ensures slots { OnOk result (Names K.cmp change.old.0 change.old.1 slots.old.entries slots.new.entries) }
     ensures change { OnOk result (change.new ≡ (change.old.0, value_at K.cmp change.old.0 slots.old.entries)) }
     ensures err { OnErr result (slots.new.entries ≡ slots.old.entries) }
     ensures kept { OnErr result (change.new ≡ change.old) }
@@ -82,17 +87,32 @@ pub(crate) fn exchange<K: Ord + Copy, V: Drop>(slots: &mut Slots<K, V>, change: 
 }
 
 // Counts one mention less. A slot with no value that nothing names is let go.
-pub(crate) fn forget<K: Ord + Copy, V: Drop>(slots: &mut Slots<K, V>, key: &K)
-    requires named { 0 < mentions_at K.cmp key.now slots.old.entries }
-    ensures slots { Sets K.cmp key.now (value_at K.cmp key.now slots.old.entries) (mentions_at K.cmp key.now slots.old.entries - 1) slots.old.entries slots.new.entries }
+pub(crate) fn forget<K: Ord + Copy, V: Drop>(slots: &mut Slots<K, V>, key: K)
+    requires named { 0 < mentions_at K.cmp key slots.old.entries }
+    ensures slots { Unnames K.cmp key (value_at K.cmp key slots.old.entries) slots.old.entries slots.new.entries }
     ensures ordered { IsOrdered K.cmp slots.new }
 {
-    let Some(slot) = slots.get_mut(key) else {
+    let Ok(Entry::Occupied(mut entry)) = slots.entry(key) else {
         unreachable!()
     };
-    slot.mentions -= 1;
-    if slot.is_spent() {
-        slots.remove(key);
+    if entry.get_mut().leave() {
+        entry.remove();
+    }
+}
+
+// Sets the change's value, and counts one mention less. A slot with no value that nothing names is let go.
+pub(crate) fn take_back<K: Ord + Copy, V: Drop>(slots: &mut Slots<K, V>, change: Change<K, V>)
+    requires named { 0 < mentions_at K.cmp change.0 slots.old.entries }
+    ensures slots { Unnames K.cmp change.0 change.1 slots.old.entries slots.new.entries }
+    ensures ordered { IsOrdered K.cmp slots.new }
+{
+    let Ok(Entry::Occupied(mut entry)) = slots.entry(change.0) else {
+        unreachable!()
+    };
+    let slot = entry.get_mut();
+    slot.value = change.1;
+    if slot.leave() {
+        entry.remove();
     }
 }
 

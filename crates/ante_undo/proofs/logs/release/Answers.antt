@@ -13,7 +13,7 @@ pub loop-change-preserved : goal.loop-change-preserved
 loop-change-preserved g c = record {
   map = forgotten_live g.met.K.Ord.total c.requires.exact c.loop-change.slots.entries c.forget.new.slots.entries c.loop-change.invariant.ordered c.forget.ensures.ordered c.in-Some.change.0 c.forget.ensures.slots ∙ c.loop-change.invariant.map;
   released = released_again c.loop-change.invariant.released
-      (forgotten g.met.K.Ord.total c.requires.exact c.loop-change.slots.entries c.forget.new.slots.entries c.loop-change.invariant.ordered c.forget.ensures.ordered c.in-Some.change.0 c.forget.ensures.slots
+      (forgotten g.met.K.Ord.total c.requires.exact c.loop-change.slots.entries c.forget.new.slots.entries c.loop-change.invariant.ordered c.forget.ensures.ordered c.in-Some.change.0 _ c.forget.ensures.slots
       (first_left g.met.K.Ord.total c.in-Some.ensures.items c.loop-change.invariant.released (c.requires.named c.in-Some.change.0)))
       (λ q. ap (named_in g.K.Ord.cmp q) c.in-Some.ensures.items);
   ordered = c.forget.ensures.ordered;
@@ -23,7 +23,7 @@ pub loop-change-preserved-in-Some : goal.loop-change-preserved-in-Some
 loop-change-preserved-in-Some g c = record {
   map = forgotten_live g.met.K.Ord.total c.requires.exact c.loop-change.slots.entries c.forget.new.slots.entries c.loop-change.invariant.ordered c.forget.ensures.ordered c.in-Some.change.0 c.forget.ensures.slots ∙ c.loop-change.invariant.map;
   released = released_again c.loop-change.invariant.released
-      (forgotten g.met.K.Ord.total c.requires.exact c.loop-change.slots.entries c.forget.new.slots.entries c.loop-change.invariant.ordered c.forget.ensures.ordered c.in-Some.change.0 c.forget.ensures.slots
+      (forgotten g.met.K.Ord.total c.requires.exact c.loop-change.slots.entries c.forget.new.slots.entries c.loop-change.invariant.ordered c.forget.ensures.ordered c.in-Some.change.0 _ c.forget.ensures.slots
       (first_left g.met.K.Ord.total c.in-Some.ensures.items c.loop-change.invariant.released (c.requires.named c.in-Some.change.0)))
       (λ q. ap (named_in g.K.Ord.cmp q) c.in-Some.ensures.items);
   ordered = c.forget.ensures.ordered;
