@@ -5,7 +5,7 @@ ghost use Rattle.ante_objects.specs.Shown.{shown_objects};
 use crate::authorities::Authorities;
 use crate::history::History;
 use ante_pack::{Digest, Level, Name};
-use ante_sessions::{Both, Entries, Kept, Sessions, Shape};
+use ante_sessions::{Both, Entries, Kept, Rule, Sessions};
 use ante_state::{AccountRow, LinkKey, PermissionRow, RecentKey};
 use ante_undo::Layered;
 use std::alloc::{AllocError, Global};
@@ -25,9 +25,9 @@ pub struct ObjectsMap {
     pub references: Entries<u16, Digest>,
 }
 
-pub struct ObjectsShape;
+pub struct ObjectsRule;
 
-impl Shape<Parts> for ObjectsShape {
+impl Rule<Parts> for ObjectsRule {
     type Shown = ObjectsMap;
 
     ghost shown = { shown_objects };
@@ -38,7 +38,7 @@ impl Shape<Parts> for ObjectsShape {
 /// Accounts, permissions, links, recent transactions and references, under nested sessions.
 #[derive(Drop)]
 pub struct Objects {
-    pub(crate) kept: Kept<Parts, ObjectsShape>,
+    pub(crate) kept: Kept<Parts, ObjectsRule>,
 }
 
 impl Model for Objects {
@@ -66,7 +66,7 @@ impl Objects {
                     first: authorities,
                     second: History::new(alloc, revision),
                 },
-                shape: PhantomData,
+                rule: PhantomData,
             },
         }
     }

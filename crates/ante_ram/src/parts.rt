@@ -7,7 +7,7 @@ ghost use Rattle.ante_ram.specs.Usage.{is_free, entry_of};
 ghost use Rattle.ante_ram.specs.Total.{IsSummed};
 
 use ante_pack::Name;
-use ante_sessions::{Both, Entries, Shape};
+use ante_sessions::{Both, Entries, Rule};
 use ante_undo::Layered;
 use std::alloc::{AllocError, Global};
 
@@ -39,9 +39,9 @@ pub struct Rest {
 pub(crate) type Parts = Both<Layered<Name, Share>, Layered<u64, Rest>>;
 
 // Only the shares are seen.
-pub struct UsageShape;
+pub struct UsageRule;
 
-impl Shape<Parts> for UsageShape {
+impl Rule<Parts> for UsageRule {
     type Shown = Entries<Name, Share>;
 
     ghost shown = { λ m. m.0 };

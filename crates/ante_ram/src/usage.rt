@@ -11,7 +11,7 @@ ghost use Rattle.ante_ram.specs.Usage.{used_of, quota_of, usage_sum, with_share,
 ghost use Rattle.ante_ram.specs.Least.{over_at, lesser_over, least_over};
 ghost use Rattle.ante_ram.specs.declared.usage.RamFault.TheVariants.{OutOfMemory, RamTotal};
 
-use crate::parts::{Parts, Rest, Share, UsageShape, put_rest, put_share};
+use crate::parts::{Parts, Rest, Share, UsageRule, put_rest, put_share};
 use ante_pack::Name;
 use ante_sessions::{Both, Entries, Kept, Sessions, next_entry};
 use ante_state::billing::MOST_USAGE;
@@ -34,7 +34,7 @@ pub enum RamFault {
 /// Contracts see a stack of maps from accounts to shares. An account that uses nothing and has no quota has no entry.
 #[derive(Drop)]
 pub struct Usage {
-    kept: Kept<Parts, UsageShape>,
+    kept: Kept<Parts, UsageRule>,
 }
 
 impl Model for Usage {
@@ -60,7 +60,7 @@ impl Usage {
                     first: Layered::new(alloc, revision),
                     second: Layered::new(alloc, revision),
                 },
-                shape: PhantomData,
+                rule: PhantomData,
             },
         }
     }

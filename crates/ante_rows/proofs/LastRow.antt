@@ -1,50 +1,63 @@
--- The last entry, found by the greatest key.
-use Rattle.std.proofs.Common.{◌≡◌, ℕ, ◌<◌, true≢false, cond, T, List, [], ◌∷◌, Some, None, refl, sym, ap, subst, ◌∙◌, Ordering, Less, Equal, Greater, is_lt}
-use Rattle.std.specs.Ordering.{is_ge, is_gt, nat_cmp, ordering_reverse, MatchOrdering}
+-- The last row, found by the greatest key, which all keys are within.
+use Rattle.std.proofs.Common.{◌≡◌, ℕ, ◌<◌, ◌≤◌, true≢false, true, false, cond, List, [], ◌∷◌, Option, Some, None, IfSome, Result, Ok, Err, OnOk, OnErr}
+use Rattle.std.proofs.Common.{refl, sym, ap, subst, ◌∙◌, arith, Ordering, Less, Equal, Greater, is_eq}
+use Rattle.std.specs.Ordering.{is_le, is_gt, nat_cmp, MatchOrdering}
 use Rattle.std.specs.Option.{option_or}
-use Rattle.std.specs.Cmp.{IsTotalOrder, ranks}
-use Rattle.std.specs.FinMap.Entries.{is_sorted, below_all}
-use Rattle.ante_undo.specs.Entries.{entry_from, entry_after, entry_before, last_entry}
-use Rattle.ante_undo.proofs.Entries.{first, second, less}
+use Rattle.std.specs.Cmp.{ranks}
+use Rattle.std.specs.List.{AllByRecursion}
+use Rattle.ante_undo.specs.Entries.{changed, entry_after, entry_up_to, last_entry}
+use Rattle.ante_undo.specs.Stack.{Stack, with_top}
+use Rattle.ante_undo.proofs.Entries.{all_changed}
+use Rattle.ante_sessions.specs.Seen.{Throughout}
+use Rattle.ante_sessions.specs.Zipped.{zip_stacks}
+use Rattle.ante_pack.specs.declared.names.TableKey.{TableKey}
+use Rattle.ante_state.specs.Orders.{table_order, row_order}
+use Rattle.ante_state.specs.declared.tables.RowKey.{RowKey}
+use Rattle.ante_state.specs.declared.tables.PrimaryRow.{PrimaryRow}
+use Rattle.ante_rows.specs.Rows.{rows_of, greatest_key, KeysFit}
 
 some_none : {X : Type 0} (x : X) → Some x ≡ None → ⊥
 some_none x h = absurd (true≢false cc)
 
--- what comes after a key is above it
-pub after_above : {V : Type 0} (key : ℕ) (m : List (ℕ × V)) (e : ℕ × V) → entry_after nat_cmp key m ≡ Some e → key < e.0
-after_above key [] e h = absurd (some_none e (sym h))
-after_above key (x ∷ xs) e h = from (nat_cmp x.0 key) (ranks x.0 key) (after_above key xs e) h
+-- where no key is above a key, the last entry that is not above it is the last of all
+pub last_up_to : {K V : Type 0} (cmp : K → K → Ordering) (key : K) (m : List (K × V)) → entry_after cmp key m ≡ None → entry_up_to cmp key m ≡ last_entry m
+last_up_to cmp key [] h = refl
+last_up_to cmp key (e ∷ es) h = from (cmp e.0 key) (last_up_to cmp key es) h
   where
-    from : (r : Ordering) → MatchOrdering r (x.0 < key) (x.0 ≡ key) (key < x.0) → (entry_after nat_cmp key xs ≡ Some e → key < e.0) → cond (is_gt r) (Some x) (entry_after nat_cmp key xs) ≡ Some e → key < e.0
-    from Less is rest h = rest h
-    from Equal is rest h = rest h
-    from Greater is rest h = let same : x ≡ e = cc in subst (λ e. key < e.0) same is
+    from : (r : Ordering) → (entry_after cmp key es ≡ None → entry_up_to cmp key es ≡ last_entry es) → cond (is_gt r) (Some e) (entry_after cmp key es) ≡ None → option_or (entry_up_to cmp key es) (cond (is_le r) (Some e) None) ≡ option_or (last_entry es) (Some e)
+    from Less rest h = ap (λ l. option_or l (Some e)) (rest h)
+    from Equal rest h = ap (λ l. option_or l (Some e)) (rest h)
+    from Greater rest h = absurd (some_none e h)
 
-module _ {K V : Type 0} (cmp : K → K → Ordering) where
-  -- where no key is at or after a key, the last entry below it is the last of all
-  pub last_below : (key : K) (m : List (K × V)) → entry_from cmp key m ≡ None → entry_before cmp key m ≡ last_entry m
-  last_below key [] h = refl
-  last_below key (e ∷ es) h = from (cmp e.0 key) (last_below key es) h
+within : (n : ℕ) → n ≤ greatest_key → is_gt (nat_cmp n greatest_key) ≡ false
+within n fits = from (nat_cmp n greatest_key) (ranks n greatest_key)
+  where
+    from : (r : Ordering) → MatchOrdering r (n < greatest_key) (n ≡ greatest_key) (greatest_key < n) → is_gt r ≡ false
+    from Less is = refl
+    from Equal is = refl
+    from Greater is = absurd (omega (arith, is, fits))
+
+-- no row comes after the greatest key
+pub none_after : {V : Type 0} (t : TableKey) (m : List (RowKey × V)) → AllByRecursion (λ e. e.0.primary ≤ greatest_key) m → entry_after nat_cmp greatest_key (rows_of table_order t m) ≡ None
+none_after t [] all = refl
+none_after t (e ∷ es) all =
+    let rest = none_after t es all.1 in
+    elim (is_eq (table_order e.0.table t)) as (λ b. entry_after nat_cmp greatest_key (cond b ((e.0.primary, e.1) ∷ rows_of table_order t es) (rows_of table_order t es)) ≡ None) [
+      | true ↦ ap (λ b. cond b (Some (e.0.primary, e.1)) (entry_after nat_cmp greatest_key (rows_of table_order t es))) (within e.0.primary all.0) ∙ rest
+      | false ↦ rest
+    ]
+
+module _ {X A E : Type 0} (a : Stack X) (b : Stack (List (RowKey × PrimaryRow))) where
+  -- keys fit after a change of the rows
+  pub rows_kept : (b' : Stack (List (RowKey × PrimaryRow))) (r : Result A E) (key : RowKey) (row : Option PrimaryRow) → key.primary ≤ greatest_key →
+      OnOk r (b' ≡ with_top (changed row_order b.top key row) b) → OnErr r (b' ≡ b) → Throughout KeysFit (zip_stacks a b) → Throughout KeysFit (zip_stacks a b')
+  rows_kept b' (Ok x) key row fits ok err is = subst (λ b. Throughout KeysFit (zip_stacks a b)) (sym ok) (record {
+    under = is.under;
+    top = all_changed row_order (λ e. e.0.primary ≤ greatest_key) b.top key row (fits_if row) is.top;
+    shelf = is.shelf;
+  })
     where
-      from : (r : Ordering) → (entry_from cmp key es ≡ None → entry_before cmp key es ≡ last_entry es) → cond (is_ge r) (Some e) (entry_from cmp key es) ≡ None → option_or (entry_before cmp key es) (cond (is_lt r) (Some e) None) ≡ option_or (last_entry es) (Some e)
-      from Less rest h = ap (λ l. option_or l (Some e)) (rest h)
-      from Equal rest h = absurd (some_none e h)
-      from Greater rest h = absurd (some_none e h)
-
-  module _ (o : IsTotalOrder cmp) where
-    -- behind an entry at a key that no key is above there is none
-    no_more : (key x : K) (es : List (K × V)) → cmp x key ≡ Equal → T (below_all cmp x es) → entry_after cmp key es ≡ None → last_entry es ≡ None
-    no_more key x [] ties below h = refl
-    no_more key x (y ∷ ys) ties below h =
-        let above : cmp y.0 key ≡ Greater = o.antisymm y.0 key ∙ ap ordering_reverse (sym (o.congr x key y.0 ties) ∙ less (cmp x y.0) (first _ _ below)) in
-        absurd (some_none y (ap (λ r. cond (is_gt r) (Some y) (entry_after cmp key ys)) (sym above) ∙ h))
-
-    -- where no key is above a key, the entry at or after it is the last of all
-    pub last_from : (key : K) (m : List (K × V)) (e : K × V) → T (is_sorted cmp m) → entry_after cmp key m ≡ None → entry_from cmp key m ≡ Some e → last_entry m ≡ Some e
-    last_from key [] e sorted past h = absurd (some_none e (sym h))
-    last_from key (x ∷ xs) e sorted past h = from (cmp x.0 key) refl (last_from key xs e (second _ _ sorted)) past h
-      where
-        from : (r : Ordering) → cmp x.0 key ≡ r → (entry_after cmp key xs ≡ None → entry_from cmp key xs ≡ Some e → last_entry xs ≡ Some e) → cond (is_gt r) (Some x) (entry_after cmp key xs) ≡ None → cond (is_ge r) (Some x) (entry_from cmp key xs) ≡ Some e → option_or (last_entry xs) (Some x) ≡ Some e
-        from Less is rest past h = ap (λ l. option_or l (Some x)) (rest past h)
-        from Equal is rest past h = ap (λ l. option_or l (Some x)) (no_more key x.0 xs is (first _ _ sorted) past) ∙ h
-        from Greater is rest past h = absurd (some_none x past)
+      fits_if : (row : Option PrimaryRow) → IfSome row (λ v. key.primary ≤ greatest_key)
+      fits_if None = tt
+      fits_if (Some row) = fits
+  rows_kept b' (Err e) key row fits ok err is = subst (λ b. Throughout KeysFit (zip_stacks a b)) (sym err) is

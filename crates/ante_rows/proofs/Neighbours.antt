@@ -49,19 +49,20 @@ module _ (o : IsTotalOrder table_order) where
               ∙ sym (ap (first_where (λ x. test (nat_cmp x p))) (none_above t e.0 es is (first _ _ h)))
         ] refl
 
-    none_below : (t : TableKey) (p : ℕ) (x : RowKey) (es : List (RowKey × V)) → table_order x.table t ≡ Greater → T (below_all row_order x es) → last_where (λ x. is_lt (row_order x (record { table = t; primary = p }))) es ≡ None
-    none_below t p x [] g h = refl
-    none_below t p x (e ∷ es) g h =
+    none_below : (test : Ordering → Bool) → test Greater ≡ false → (t : TableKey) (p : ℕ) (x : RowKey) (es : List (RowKey × V)) → table_order x.table t ≡ Greater → T (below_all row_order x es) → last_where (λ x. test (row_order x (record { table = t; primary = p }))) es ≡ None
+    none_below test high t p x [] g h = refl
+    none_below test high t p x (e ∷ es) g h =
         let above = above_stays t x.table e.0.table x.primary e.0.primary (table_order x.table e.0.table) refl g (first _ _ h) in
-        ap (λ l. option_or l (cond (is_lt (ordering_then (table_order e.0.table t) (nat_cmp e.0.primary p))) (Some e) None)) (none_below t p x es g (second _ _ h))
-        ∙ ap (λ r. cond (is_lt (ordering_then r (nat_cmp e.0.primary p))) (Some e) None) above
+        ap (λ l. option_or l (cond (test (ordering_then (table_order e.0.table t) (nat_cmp e.0.primary p))) (Some e) None)) (none_below test high t p x es g (second _ _ h))
+        ∙ ap (λ r. cond (test (ordering_then r (nat_cmp e.0.primary p))) (Some e) None) above
+        ∙ ap (λ b. cond b (Some e) None) high
 
-    -- a row below a place in the table that comes after a row of the table is of the table
-    below_ties : (t : TableKey) (p : ℕ) (x : RowKey) (es : List (RowKey × V)) (e : RowKey × V) → table_order x.table t ≡ Equal → T (below_all row_order x es) → last_where (λ x. is_lt (row_order x (record { table = t; primary = p }))) es ≡ Some e → table_order e.0.table t ≡ Equal
-    below_ties t p x [] e ties h is = absurd (true≢false cc)
-    below_ties t p x (y ∷ es) e ties h is =
-        elim (last_where (λ x. is_lt (row_order x (record { table = t; primary = p }))) es) as (λ l. last_where (λ x. is_lt (row_order x (record { table = t; primary = p }))) es ≡ l → option_or l (cond (is_lt (row_order y.0 (record { table = t; primary = p }))) (Some y) None) ≡ Some e → table_order e.0.table t ≡ Equal) [
-          | Some z ↦ λ l q. below_ties t p x es e ties (second _ _ h) (l ∙ q)
+    -- a row on a lower side of a place in the table that comes after a row of the table is of the table
+    below_ties : (test : Ordering → Bool) → test Greater ≡ false → (t : TableKey) (p : ℕ) (x : RowKey) (es : List (RowKey × V)) (e : RowKey × V) → table_order x.table t ≡ Equal → T (below_all row_order x es) → last_where (λ x. test (row_order x (record { table = t; primary = p }))) es ≡ Some e → table_order e.0.table t ≡ Equal
+    below_ties test high t p x [] e ties h is = absurd (true≢false cc)
+    below_ties test high t p x (y ∷ es) e ties h is =
+        elim (last_where (λ x. test (row_order x (record { table = t; primary = p }))) es) as (λ l. last_where (λ x. test (row_order x (record { table = t; primary = p }))) es ≡ l → option_or l (cond (test (row_order y.0 (record { table = t; primary = p }))) (Some y) None) ≡ Some e → table_order e.0.table t ≡ Equal) [
+          | Some z ↦ λ l q. below_ties test high t p x es e ties (second _ _ h) (l ∙ q)
           | None ↦ λ l q. head_ties (table_order y.0.table t) refl q
         ] refl is
       where
@@ -70,37 +71,40 @@ module _ (o : IsTotalOrder table_order) where
         not_less Equal e1 lt less_t = absurd (true≢false (ap is_lt (sym (o.congr x.table y.0.table t e1 ∙ less_t)) ∙ ap is_lt ties))
         not_less Greater e1 lt less_t = absurd lt
 
-        head_ties : (r : Ordering) → table_order y.0.table t ≡ r → cond (is_lt (ordering_then r (nat_cmp y.0.primary p))) (Some y) None ≡ Some e → table_order e.0.table t ≡ Equal
+        head_ties : (r : Ordering) → table_order y.0.table t ≡ r → cond (test (ordering_then r (nat_cmp y.0.primary p))) (Some y) None ≡ Some e → table_order e.0.table t ≡ Equal
         head_ties Less e1 q = absurd (not_less (table_order x.table y.0.table) refl (first _ _ h) e1)
-        head_ties Equal e1 q = elim (is_lt (nat_cmp y.0.primary p)) as (λ b. cond b (Some y) None ≡ Some e → table_order e.0.table t ≡ Equal) [
+        head_ties Equal e1 q = elim (test (nat_cmp y.0.primary p)) as (λ b. cond b (Some y) None ≡ Some e → table_order e.0.table t ≡ Equal) [
           | true ↦ λ q. let same : y ≡ e = cc in subst (λ e. table_order e.0.table t ≡ Equal) same e1
           | false ↦ λ q. absurd (true≢false cc)
         ] q
-        head_ties Greater e1 q = absurd (true≢false cc)
+        head_ties Greater e1 q = let none : None ≡ Some e = ap (λ b. cond b (Some y) None) (sym high) ∙ q in absurd (true≢false cc)
 
-    -- the last row below a place in the table
-    pub last_in : (t : TableKey) (p : ℕ) (m : List (RowKey × V)) → T (is_sorted row_order m) → in_table table_order t (last_where (λ x. is_lt (row_order x (record { table = t; primary = p }))) m) ≡ last_where (λ x. is_lt (nat_cmp x p)) (rows_of table_order t m)
-    last_in t p [] h = refl
-    last_in t p (e ∷ es) h =
-        let rest = last_in t p es (second _ _ h) in
-        elim (table_order e.0.table t) as (λ r. table_order e.0.table t ≡ r → in_table table_order t (option_or (last_where (λ x. is_lt (row_order x (record { table = t; primary = p }))) es) (cond (is_lt (ordering_then r (nat_cmp e.0.primary p))) (Some e) None)) ≡ last_where (λ x. is_lt (nat_cmp x p)) (cond (is_eq r) ((e.0.primary, e.1) ∷ rows_of table_order t es) (rows_of table_order t es))) [
-          | Less ↦ λ is. before_table is (last_where (λ x. is_lt (row_order x (record { table = t; primary = p }))) es) rest
-          | Equal ↦ λ is. in_this is (last_where (λ x. is_lt (row_order x (record { table = t; primary = p }))) es) refl rest
-          | Greater ↦ λ is. ap (λ l. in_table table_order t (option_or l None)) (none_below t p e.0 es is (first _ _ h)) ∙ sym (ap (last_where (λ x. is_lt (nat_cmp x p))) (none_above t e.0 es is (first _ _ h)))
+    -- the last row on a lower side of a place in the table
+    pub last_in : (test : Ordering → Bool) → test Less ≡ true → test Greater ≡ false → (t : TableKey) (p : ℕ) (m : List (RowKey × V)) → T (is_sorted row_order m) → in_table table_order t (last_where (λ x. test (row_order x (record { table = t; primary = p }))) m) ≡ last_where (λ x. test (nat_cmp x p)) (rows_of table_order t m)
+    last_in test low high t p [] h = refl
+    last_in test low high t p (e ∷ es) h =
+        let rest = last_in test low high t p es (second _ _ h) in
+        elim (table_order e.0.table t) as (λ r. table_order e.0.table t ≡ r → in_table table_order t (option_or (last_where (λ x. test (row_order x (record { table = t; primary = p }))) es) (cond (test (ordering_then r (nat_cmp e.0.primary p))) (Some e) None)) ≡ last_where (λ x. test (nat_cmp x p)) (cond (is_eq r) ((e.0.primary, e.1) ∷ rows_of table_order t es) (rows_of table_order t es))) [
+          | Less ↦ λ is. ap (λ b. in_table table_order t (option_or (last_where (λ x. test (row_order x (record { table = t; primary = p }))) es) (cond b (Some e) None))) low
+              ∙ before_table is (last_where (λ x. test (row_order x (record { table = t; primary = p }))) es) rest
+          | Equal ↦ λ is. in_this is (last_where (λ x. test (row_order x (record { table = t; primary = p }))) es) refl rest
+          | Greater ↦ λ is. ap (λ b. in_table table_order t (option_or (last_where (λ x. test (row_order x (record { table = t; primary = p }))) es) (cond b (Some e) None))) high
+              ∙ ap (λ l. in_table table_order t (option_or l None)) (none_below test high t p e.0 es is (first _ _ h))
+              ∙ sym (ap (last_where (λ x. test (nat_cmp x p))) (none_above t e.0 es is (first _ _ h)))
         ] refl
       where
-        before_table : table_order e.0.table t ≡ Less → (l : Option (RowKey × V)) → in_table table_order t l ≡ last_where (λ x. is_lt (nat_cmp x p)) (rows_of table_order t es) → in_table table_order t (option_or l (Some e)) ≡ last_where (λ x. is_lt (nat_cmp x p)) (rows_of table_order t es)
+        before_table : table_order e.0.table t ≡ Less → (l : Option (RowKey × V)) → in_table table_order t l ≡ last_where (λ x. test (nat_cmp x p)) (rows_of table_order t es) → in_table table_order t (option_or l (Some e)) ≡ last_where (λ x. test (nat_cmp x p)) (rows_of table_order t es)
         before_table is None rest = ap (λ r. cond (is_eq r) (Some (e.0.primary, e.1)) None) is ∙ rest
         before_table is (Some y) rest = rest
 
-        in_this : table_order e.0.table t ≡ Equal → (l : Option (RowKey × V)) → last_where (λ x. is_lt (row_order x (record { table = t; primary = p }))) es ≡ l → in_table table_order t l ≡ last_where (λ x. is_lt (nat_cmp x p)) (rows_of table_order t es) → in_table table_order t (option_or l (cond (is_lt (nat_cmp e.0.primary p)) (Some e) None)) ≡ option_or (last_where (λ x. is_lt (nat_cmp x p)) (rows_of table_order t es)) (cond (is_lt (nat_cmp e.0.primary p)) (Some (e.0.primary, e.1)) None)
-        in_this is None l rest = elim (is_lt (nat_cmp e.0.primary p)) as (λ b. in_table table_order t (cond b (Some e) None) ≡ cond b (Some (e.0.primary, e.1)) None) [
+        in_this : table_order e.0.table t ≡ Equal → (l : Option (RowKey × V)) → last_where (λ x. test (row_order x (record { table = t; primary = p }))) es ≡ l → in_table table_order t l ≡ last_where (λ x. test (nat_cmp x p)) (rows_of table_order t es) → in_table table_order t (option_or l (cond (test (nat_cmp e.0.primary p)) (Some e) None)) ≡ option_or (last_where (λ x. test (nat_cmp x p)) (rows_of table_order t es)) (cond (test (nat_cmp e.0.primary p)) (Some (e.0.primary, e.1)) None)
+        in_this is None l rest = elim (test (nat_cmp e.0.primary p)) as (λ b. in_table table_order t (cond b (Some e) None) ≡ cond b (Some (e.0.primary, e.1)) None) [
           | true ↦ ap (λ r. cond (is_eq r) (Some (e.0.primary, e.1)) None) is
           | false ↦ refl
-        ] ∙ ap (λ o. option_or o (cond (is_lt (nat_cmp e.0.primary p)) (Some (e.0.primary, e.1)) None)) rest
+        ] ∙ ap (λ o. option_or o (cond (test (nat_cmp e.0.primary p)) (Some (e.0.primary, e.1)) None)) rest
         in_this is (Some y) l rest =
-            let ties = ap (λ r. cond (is_eq r) (Some (y.0.primary, y.1)) None) (below_ties t p e.0 es y is (first _ _ h) l) in
-            ties ∙ ap (λ o. option_or o (cond (is_lt (nat_cmp e.0.primary p)) (Some (e.0.primary, e.1)) None)) (sym ties ∙ rest)
+            let ties = ap (λ r. cond (is_eq r) (Some (y.0.primary, y.1)) None) (below_ties test high t p e.0 es y is (first _ _ h) l) in
+            ties ∙ ap (λ o. option_or o (cond (test (nat_cmp e.0.primary p)) (Some (e.0.primary, e.1)) None)) (sym ties ∙ rest)
 
     -- the row at a place in the table
     pub found_in : (t : TableKey) (p : ℕ) (m : List (RowKey × V)) → find row_order (record { table = t; primary = p }) m ≡ find nat_cmp p (rows_of table_order t m)

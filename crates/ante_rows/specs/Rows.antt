@@ -1,7 +1,8 @@
 -- The rows of a table as a list by primary key, in which neighbours are places.
-use Rattle.std.specs.Prelude.{ℕ, List, [], ◌∷◌, Option, Some, None, if◌then◌else◌}
+use Rattle.std.specs.Prelude.{ℕ, ◌≤◌, List, [], ◌∷◌, Option, Some, None, if◌then◌else◌}
 use Rattle.std.specs.declared.cmp.Ordering.{Ordering}
 use Rattle.std.specs.Ordering.{eq_by_cmp}
+use Rattle.std.specs.List.{AllByRecursion}
 use Rattle.ante_pack.specs.declared.names.TableKey.{TableKey}
 use Rattle.ante_undo.specs.Entries.{changed}
 use Rattle.ante_state.specs.Orders.{table_order, row_order}
@@ -29,6 +30,10 @@ table_set table object m = record { tables = changed table_order m.tables table 
 abbrev pub row_set : TableKey → ℕ → Option PrimaryRow → RowsMap → RowsMap
 row_set table primary row m = record { tables = m.tables; rows = changed row_order m.rows (record { table = table; primary = primary }) row }
 
--- tables and rows keep no rule between them
-abbrev pub nothing : {M : Type 0} → M → Type 0
-nothing m = Unit {0}
+-- the greatest primary key
+abbrev pub greatest_key : ℕ
+greatest_key = 18446744073709551615
+
+-- primary keys have 64 bits
+abbrev pub KeysFit : {T V : Type 0} → T × List (RowKey × V) → Type 0
+KeysFit m = AllByRecursion (λ e. e.0.primary ≤ greatest_key) m.1

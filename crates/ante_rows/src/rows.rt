@@ -3,13 +3,14 @@ ghost use Rattle.std.specs.Option.{option_map, option_copied};
 ghost use Rattle.std.specs.Ordering.{nat_cmp};
 ghost use Rattle.std.specs.FinMap.Entries.{find, is_sorted};
 ghost use Rattle.ante_undo.specs.Stack.{opened, with_top, begun, committed, IsSquashed, without_shelf, IsShelved, IsUnshelved, IsAbove, IsSound};
-ghost use Rattle.ante_undo.specs.Entries.{entry_from, entry_after, entry_before, first_entry, last_entry};
+ghost use Rattle.ante_undo.specs.Entries.{entry_from, entry_after, entry_before, entry_up_to, first_entry, last_entry};
 ghost use Rattle.ante_sessions.specs.Walk.{past};
-ghost use Rattle.ante_rows.specs.Rows.{rows_of, in_table, table_set, row_set, nothing};
+ghost use Rattle.ante_state.specs.Orders.{table_order, row_order};
+ghost use Rattle.ante_rows.specs.Rows.{rows_of, in_table, table_set, row_set, KeysFit};
 ghost use Rattle.std.specs.Map.Iter.{deref_pair};
 
 use ante_pack::TableKey;
-use ante_sessions::{Both, Entries, Kept, Sessions, Shape, next_entry, set_entry};
+use ante_sessions::{Both, Entries, Kept, Rule, Sessions, next_entry, set_entry};
 use ante_state::{PrimaryRow, RowKey, TableRow, total_order};
 use ante_undo::Layered;
 use std::alloc::{AllocError, Global};
@@ -23,20 +24,20 @@ pub struct RowsMap {
     pub rows: Entries<RowKey, PrimaryRow>,
 }
 
-pub struct RowsShape;
+pub struct RowsRule;
 
-impl Shape<Parts> for RowsShape {
+impl Rule<Parts> for RowsRule {
     type Shown = RowsMap;
 
     ghost shown = { λ m. record { tables = m.0; rows = m.1 } };
 
-    ghost holds = { nothing };
+    ghost holds = { KeysFit };
 }
 
 /// Contract tables and their primary rows, under nested sessions.
 #[derive(Drop)]
 pub struct Rows {
-    kept: Kept<Parts, RowsShape>,
+    kept: Kept<Parts, RowsRule>,
 }
 
 impl Model for Rows {
@@ -60,7 +61,7 @@ impl Rows {
                     first: Layered::new(alloc, revision),
                     second: Layered::new(alloc, revision),
                 },
-                shape: PhantomData,
+                rule: PhantomData,
             },
         }
     }
@@ -112,7 +113,7 @@ impl Rows {
 
     /// The row of the table with the primary key.
     pub fn row(&self, key: &TableKey, primary: u64) -> Option<&PrimaryRow>
-        ensures { option_copied result ≡ find nat_cmp primary (rows_of ⟦<TableKey as Ord>⟧.cmp key.now self.now.top.rows) }
+        ensures { option_copied result ≡ find nat_cmp primary (rows_of table_order key.now self.now.top.rows) }
     {
         total_order::<TableKey>();
         let place = RowKey {
@@ -124,8 +125,8 @@ impl Rows {
 
     /// The first row of the table whose primary key is at least the given one.
     pub fn row_from(&self, key: &TableKey, primary: u64) -> Option<(u64, &PrimaryRow)>
-        ensures nearest { option_map (λ e. (e.0, e.1.now)) result ≡ entry_from nat_cmp primary (rows_of ⟦<TableKey as Ord>⟧.cmp key.now self.now.top.rows) }
-        ensures ordered { IsTrue (is_sorted nat_cmp (rows_of ⟦<TableKey as Ord>⟧.cmp key.now self.now.top.rows)) }
+        ensures nearest { option_map (λ e. (e.0, e.1.now)) result ≡ entry_from nat_cmp primary (rows_of table_order key.now self.now.top.rows) }
+        ensures ordered { IsTrue (is_sorted nat_cmp (rows_of table_order key.now self.now.top.rows)) }
     {
         total_order::<TableKey>();
         let place = RowKey {
@@ -137,8 +138,8 @@ impl Rows {
 
     /// The first row of the table whose primary key is above the given one.
     pub fn row_after(&self, key: &TableKey, primary: u64) -> Option<(u64, &PrimaryRow)>
-        ensures nearest { option_map (λ e. (e.0, e.1.now)) result ≡ entry_after nat_cmp primary (rows_of ⟦<TableKey as Ord>⟧.cmp key.now self.now.top.rows) }
-        ensures ordered { IsTrue (is_sorted nat_cmp (rows_of ⟦<TableKey as Ord>⟧.cmp key.now self.now.top.rows)) }
+        ensures nearest { option_map (λ e. (e.0, e.1.now)) result ≡ entry_after nat_cmp primary (rows_of table_order key.now self.now.top.rows) }
+        ensures ordered { IsTrue (is_sorted nat_cmp (rows_of table_order key.now self.now.top.rows)) }
     {
         total_order::<TableKey>();
         let place = RowKey {
@@ -150,8 +151,8 @@ impl Rows {
 
     /// The last row of the table whose primary key is below the given one.
     pub fn row_before(&self, key: &TableKey, primary: u64) -> Option<(u64, &PrimaryRow)>
-        ensures nearest { option_map (λ e. (e.0, e.1.now)) result ≡ entry_before nat_cmp primary (rows_of ⟦<TableKey as Ord>⟧.cmp key.now self.now.top.rows) }
-        ensures ordered { IsTrue (is_sorted nat_cmp (rows_of ⟦<TableKey as Ord>⟧.cmp key.now self.now.top.rows)) }
+        ensures nearest { option_map (λ e. (e.0, e.1.now)) result ≡ entry_before nat_cmp primary (rows_of table_order key.now self.now.top.rows) }
+        ensures ordered { IsTrue (is_sorted nat_cmp (rows_of table_order key.now self.now.top.rows)) }
     {
         total_order::<TableKey>();
         let place = RowKey {
@@ -163,23 +164,22 @@ impl Rows {
 
     /// The last row of the table.
     pub fn row_last(&self, key: &TableKey) -> Option<(u64, &PrimaryRow)>
-        ensures { option_map (λ e. (e.0, e.1.now)) result ≡ last_entry (rows_of ⟦<TableKey as Ord>⟧.cmp key.now self.now.top.rows) }
+        ensures { option_map (λ e. (e.0, e.1.now)) result ≡ last_entry (rows_of table_order key.now self.now.top.rows) }
     {
-        let Some(last) = self.row_from(key, u64::MAX) else {
-            return self.row_before(key, u64::MAX);
-        };
-        prove!(self.ends(key));
-        Some(last)
+        self.row_up_to(key, u64::MAX)
     }
 
-    // That no row of the table comes after the greatest primary key that there is.
-    fn ends(&self, key: &TableKey) -> bool
-        ensures { (result ≡ true) × (entry_after nat_cmp 18446744073709551615 (rows_of ⟦<TableKey as Ord>⟧.cmp key.now self.now.top.rows) ≡ None) }
+    // The last row of the table whose primary key is not above the given one.
+    fn row_up_to(&self, key: &TableKey, primary: u64) -> Option<(u64, &PrimaryRow)>
+        ensures nearest { option_map (λ e. (e.0, e.1.now)) result ≡ entry_up_to nat_cmp primary (rows_of table_order key.now self.now.top.rows) }
+        ensures fit { KeysFit (self.now.top.tables, self.now.top.rows) }
     {
-        match self.row_after(key, u64::MAX) {
-            Some((primary, _)) => is_key(primary),
-            None => true,
-        }
+        total_order::<TableKey>();
+        let place = RowKey {
+            table: *key,
+            primary,
+        };
+        in_table(key, self.kept.inner.second.at_or_before(&place))
     }
 
     /// Puts the row into the table.
@@ -210,7 +210,7 @@ impl Rows {
         primary: u64,
     ) -> Result<bool, AllocError>
         requires above { IsAbove 1 self.old }
-        ensures there { IfOk result (λ there. there ≡ is_some (find ⟦<RowKey as Ord>⟧.cmp (record { table = key.now; primary = primary }) self.old.top.rows)) }
+        ensures there { IfOk result (λ there. there ≡ is_some (find row_order (record { table = key.now; primary = primary }) self.old.top.rows)) }
         ensures ok { OnOk result (self.new ≡ with_top (row_set key.now primary None self.old.top) self.old) }
         ensures err { OnErr result (self.new ≡ self.old) }
     {
@@ -236,13 +236,6 @@ impl Rows {
         let parts = &mut self.kept.inner;
         set_entry(alloc, &mut parts.first, key, row)
     }
-}
-
-// That a primary key fits 64 bits.
-fn is_key(primary: u64) -> bool
-    ensures { (result ≡ true) × (primary ≤ 18446744073709551615) }
-{
-    primary <= u64::MAX
 }
 
 // An entry as a row of the table, if it is one.

@@ -5,7 +5,7 @@ use std::alloc::{AllocError, Global};
 use std::marker::{Model, PhantomData};
 
 /// How a value is seen, and the rule that it keeps.
-pub trait Shape<S: Sessions> {
+pub trait Rule<S: Sessions> {
     /// What the value is seen as.
     type Shown;
 
@@ -17,12 +17,12 @@ pub trait Shape<S: Sessions> {
 /// A value that is seen through a function and keeps a rule. The rule holds of the top, of what each session began with
 /// and of what is on the shelf, so that no session call can break it.
 #[derive(Drop)]
-pub struct Kept<S: Sessions, R: Shape<S>> {
+pub struct Kept<S: Sessions, R: Rule<S>> {
     pub inner: S,
-    pub shape: PhantomData<R>,
+    pub rule: PhantomData<R>,
 }
 
-impl<S: Sessions, R: Shape<S>> Model for Kept<S, R> {
+impl<S: Sessions, R: Rule<S>> Model for Kept<S, R> {
     ghost use Rattle.ante_undo.specs.Stack.{Stack};
     ghost use Rattle.ante_sessions.specs.Seen.{map_stack, Throughout};
 
@@ -33,7 +33,7 @@ impl<S: Sessions, R: Shape<S>> Model for Kept<S, R> {
     ghost invariant = { λ s. Throughout R.holds (S.stack s.inner) };
 }
 
-impl<S: Sessions, R: Shape<S>> Sessions for Kept<S, R> {
+impl<S: Sessions, R: Rule<S>> Sessions for Kept<S, R> {
     type Map = R::Shown;
 
     ghost stack = { λ s. s };

@@ -10,6 +10,6 @@ mod walk;
 
 pub use both::Both;
 pub use entry::set_entry;
-pub use kept::{Kept, Shape};
+pub use kept::{Kept, Rule};
 pub use sessions::{Entries, Sessions};
 pub use walk::next_entry;

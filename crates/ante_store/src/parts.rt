@@ -7,7 +7,7 @@ use ante_objects::{Objects, ObjectsMap};
 use ante_pack::Name;
 use ante_ram::{Share, Usage};
 use ante_rows::{Rows, RowsMap};
-use ante_sessions::{Both, Entries, Kept, Shape};
+use ante_sessions::{Both, Entries, Kept, Rule};
 use std::alloc::Global;
 use std::marker::PhantomData;
 
@@ -18,9 +18,9 @@ pub struct Maps {
     pub usage: Entries<Name, Share>,
 }
 
-pub struct MapsShape;
+pub struct MapsRule;
 
-impl Shape<Both<Both<Rows, Objects>, Usage>> for MapsShape {
+impl Rule<Both<Both<Rows, Objects>, Usage>> for MapsRule {
     type Shown = Maps;
 
     ghost shown = { shown_maps };
@@ -29,7 +29,7 @@ impl Shape<Both<Both<Rows, Objects>, Usage>> for MapsShape {
 }
 
 /// Rows, objects and usage in the same sessions.
-pub(crate) type Parts = Kept<Both<Both<Rows, Objects>, Usage>, MapsShape>;
+pub(crate) type Parts = Kept<Both<Both<Rows, Objects>, Usage>, MapsRule>;
 
 /// Nothing at all, at the revision.
 pub(crate) fn no_parts(alloc: Global, revision: u64) -> Parts
@@ -45,6 +45,6 @@ pub(crate) fn no_parts(alloc: Global, revision: u64) -> Parts
             first: both,
             second: Usage::new(alloc, revision),
         },
-        shape: PhantomData,
+        rule: PhantomData,
     }
 }

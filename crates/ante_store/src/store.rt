@@ -16,7 +16,7 @@ use crate::parts::Parts;
 use ante_objects::Objects;
 use ante_ram::Usage;
 use ante_rows::Rows;
-use ante_sessions::{Kept, Sessions, Shape};
+use ante_sessions::{Kept, Rule, Sessions};
 use std::alloc::{AllocError, Global};
 use std::marker::{Model, PhantomData};
 
@@ -36,9 +36,9 @@ impl Model for WorldMap {
 }
 
 /// Rows, objects and usage seen as a world, in which usage is what is billed.
-pub struct WorldShape;
+pub struct WorldRule;
 
-impl Shape<Parts> for WorldShape {
+impl Rule<Parts> for WorldRule {
     type Shown = WorldMap;
 
     ghost shown = { world_of };
@@ -49,7 +49,7 @@ impl Shape<Parts> for WorldShape {
 /// The whole state of the chain under nested sessions. Contracts see a stack of worlds.
 #[derive(Drop)]
 pub struct Store {
-    kept: Kept<Parts, WorldShape>,
+    kept: Kept<Parts, WorldRule>,
 }
 
 impl Model for Store {
@@ -111,7 +111,7 @@ impl Store {
         Store {
             kept: Kept {
                 inner: parts,
-                shape: PhantomData,
+                rule: PhantomData,
             },
         }
     }

@@ -1,7 +1,8 @@
 -- What a look-up finds in a map after a change, and that changes keep the keys in order.
-use Rattle.std.proofs.Common.{◌≡◌, Bool, true, false, cond, not, ◌&&◌, T, List, [], ◌∷◌, Option, Some, None, option_map, refl, sym, ap, subst, ◌∙◌, Ordering, Less, Equal, Greater, is_lt, is_eq}
+use Rattle.std.proofs.Common.{◌≡◌, Bool, true, false, cond, not, ◌&&◌, T, List, [], ◌∷◌, Option, Some, None, IfSome, option_map, refl, sym, ap, subst, ◌∙◌, Ordering, Less, Equal, Greater, is_lt, is_eq}
 use Rattle.std.specs.Ordering.{ordering_reverse, eq_by_cmp}
 use Rattle.std.specs.Cmp.{IsTotalOrder, alike_right}
+use Rattle.std.specs.List.{AllByRecursion}
 use Rattle.std.specs.FinMap.Entries.{by_order, put, find, is_sorted, below_all, is_sorted-where_key}
 use Rattle.ante_undo.specs.Entries.{with_entry, without_key, changed, entry_at}
 
@@ -71,6 +72,29 @@ module _ {K V : Type 0} (cmp : K → K → Ordering) where
         | Equal ↦ both _ _ p (second _ _ h)
         | Greater ↦ both _ _ (first _ _ h) (below_with x k v es p (second _ _ h))
       ]
+
+  module _ (P : K × V → Type 0) where
+    all_with : (k : K) (v : V) (es : List (K × V)) → P (k, v) → AllByRecursion P es → AllByRecursion P (with_entry cmp k v es)
+    all_with k v [] p all = (p, tt)
+    all_with k v (e ∷ es) p all =
+        elim (cmp k e.0) as (λ r. AllByRecursion P (by_order r ((k, v) ∷ e ∷ es) ((k, v) ∷ es) (e ∷ with_entry cmp k v es))) [
+          | Less ↦ (p, all)
+          | Equal ↦ (p, all.1)
+          | Greater ↦ (all.0, all_with k v es p all.1)
+        ]
+
+    all_without : (k : K) (es : List (K × V)) → AllByRecursion P es → AllByRecursion P (without_key cmp k es)
+    all_without k [] all = tt
+    all_without k (e ∷ es) all =
+        elim (eq_by_cmp cmp k e.0) as (λ b. AllByRecursion P (cond (not b) (e ∷ without_key cmp k es) (without_key cmp k es))) [
+          | true ↦ all_without k es all.1
+          | false ↦ (all.0, all_without k es all.1)
+        ]
+
+    -- what holds of all entries, and of the one that is put, holds after a change
+    pub all_changed : (es : List (K × V)) (k : K) (c : Option V) → IfSome c (λ v. P (k, v)) → AllByRecursion P es → AllByRecursion P (changed cmp es k c)
+    all_changed es k (Some v) p all = all_with k v es p all
+    all_changed es k None p all = all_without k es all
 
   module _ (o : IsTotalOrder cmp) where
     below_less : (x y : K) (es : List (K × V)) → cmp x y ≡ Less → T (below_all cmp y es) → T (below_all cmp x es)

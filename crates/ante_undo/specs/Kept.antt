@@ -45,7 +45,8 @@ module _ {K V : Type 0} (cmp : K → K → Ordering) where
     pub exact : IsAntisymmetric cmp
     pub ordered : IsStrictlySortedBy cmp (keys_of slots)
     pub tidy : IsTidy cmp slots
-    pub counted : (q : K) → mentions_at cmp q slots ≡ named_in_all cmp q (below_of shelf) + named_in_all cmp q opened + named_in_all cmp q (shelved_of shelf)
+    pub counted : (q : K) →
+        mentions_at cmp q slots ≡ named_in_all cmp q (below_of shelf) + named_in_all cmp q opened + named_in_all cmp q (shelved_of shelf)
     pub few : total (below_of shelf) + total opened + total (shelved_of shelf) ≤ changes
     pub bound : changes < 2 ^ 63
     pub small : revision < 2 ^ 63

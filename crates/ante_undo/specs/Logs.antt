@@ -12,6 +12,10 @@ abbrev pub one_if : Bool → ℕ
 one_if true = 1
 one_if false = 0
 
+-- the logs of several sessions
+abbrev pub LogsOf : (K V : Type 0) → Type 0
+LogsOf K V = List (List (K × Option V))
+
 module _ {X : Type 0} where
   -- how many entries the logs have
   abbrev pub total : List (List X) → ℕ
@@ -90,7 +94,7 @@ module _ {K V : Type 0} (cmp : K → K → Ordering) where
     pub lengths : length log' ≡ length log
 
   -- sessions have been taken back from the one list, and now stand in the other
-  pub record AreMoved (old : List (K × Slot V)) (from to : List (List (K × Option V))) (new : List (K × Slot V)) (from' to' : List (List (K × Option V))) : Type 0 where
+  pub record AreMoved (old : List (K × Slot V)) (from to : LogsOf K V) (new : List (K × Slot V)) (from' to' : LogsOf K V) : Type 0 where
     pub stays : Stays old new
     pub forth : maps_under (live new) from' ++ live new ∷ maps_over (live new) to' ≡ maps_under (live old) from ++ live old ∷ maps_over (live old) to
     pub back : maps_under (live new) to' ++ live new ∷ maps_over (live new) from' ≡ maps_under (live old) to ++ live old ∷ maps_over (live old) from

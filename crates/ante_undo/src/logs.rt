@@ -1,13 +1,15 @@
 // The logs of sessions. An entry is a key with the value that stands there once the entry is taken back. Logs and their entries
 // are moved from list to list by their nodes, which takes no memory.
-ghost use Rattle.std.specs.Prelude.{◌≡◌, ℕ, ◌+◌, ◌^◌, ◌<◌, ◌≤◌, [], ◌∷◌, ◌++◌, List, Option, length, drop, Some, None, IfSome, IfNone, OnOk, OnErr, IfErr};
+ghost use Rattle.std.specs.Prelude.{◌≡◌, ℕ, ◌+◌, ◌^◌, ◌<◌, ◌≤◌, [], ◌∷◌, ◌++◌, List, length, drop};
+ghost use Rattle.std.specs.Prelude.{Option, Some, None, IfSome, IfNone, OnOk, OnErr, IfErr};
 ghost use Rattle.std.specs.Option.{option_map_or};
 ghost use Rattle.std.specs.FinMap.Entries.{find};
 ghost use Rattle.ante_undo.specs.Kept.{below_of};
 ghost use Rattle.std.specs.FinMap.{IsAntisymmetric};
 ghost use Rattle.std.specs.BTreeMap.{IsOrdered};
 ghost use Rattle.ante_undo.specs.Slots.{live, value_at, mentions_at, Names};
-ghost use Rattle.ante_undo.specs.Logs.{total, CutsLast, AddsEntry, AddsLog, named_in, named_in_all, taken_back, taken_back_all, IsMoved, IsTurned, AreMoved, Releases};
+ghost use Rattle.ante_undo.specs.Logs.{total, named_in, named_in_all, taken_back, taken_back_all};
+ghost use Rattle.ante_undo.specs.Logs.{CutsLast, AddsEntry, AddsLog, IsMoved, IsTurned, AreMoved, Releases};
 
 use crate::slots::{Change, Slots, enter, exchange, forget, take_back};
 use std::collections::LinkedList;

@@ -398,17 +398,17 @@ fn the_neighbours_pass_over_removed_keys(rt: HostRuntime) -> Result<(), AllocErr
     ] {
         assert!(rt; trial.call(rt.alloc(), step)?, "{step:?}");
     }
-    // A key, and its value, the keys at or after it, after it and before it.
+    // A key, and its value, the keys at or after it, after it, before it, and at or before it.
     let rows = [
-        (0, None, Some(10), Some(10), None),
-        (10, Some(1), Some(10), Some(20), None),
-        (15, None, Some(20), Some(20), Some(10)),
-        (20, Some(2), Some(20), Some(50), Some(10)),
-        (30, None, Some(50), Some(50), Some(20)),
-        (50, Some(6), Some(50), None, Some(20)),
-        (60, None, None, None, Some(50)),
+        (0, None, Some(10), Some(10), None, None),
+        (10, Some(1), Some(10), Some(20), None, Some(10)),
+        (15, None, Some(20), Some(20), Some(10), Some(10)),
+        (20, Some(2), Some(20), Some(50), Some(10), Some(20)),
+        (30, None, Some(50), Some(50), Some(20), Some(20)),
+        (50, Some(6), Some(50), None, Some(20), Some(50)),
+        (60, None, None, None, Some(50), Some(50)),
     ];
-    for (key, value, at_or_after, after, before) in rows {
+    for (key, value, at_or_after, after, before, at_or_before) in rows {
         let map = &trial.map;
         assert_eq!(rt; map.get(&key).copied(), value, "at {key}");
         assert_eq!(rt;
@@ -421,6 +421,11 @@ fn the_neighbours_pass_over_removed_keys(rt: HostRuntime) -> Result<(), AllocErr
             map.before(&key).map(|entry| *entry.0),
             before,
             "before {key}"
+        );
+        assert_eq!(rt;
+            map.at_or_before(&key).map(|entry| *entry.0),
+            at_or_before,
+            "up to {key}"
         );
     }
     assert_eq!(rt; trial.map.first().map(|entry| *entry.0), Some(10));
