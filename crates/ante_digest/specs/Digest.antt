@@ -18,7 +18,10 @@ use Rattle.ante_state.specs.declared.objects.RecentKey.{RecentKey}
 use Rattle.ante_types.specs.World.{World, bills, used}
 use Rattle.ante_ram.specs.declared.parts.Share.{Share}
 use Rattle.ante_ram.specs.Usage.{entry_of}
-use Rattle.ante_digest.specs.Entries.{counted, packed_account, packed_permission, packed_link, packed_share, packed_recent, packed_reference, packed_table, packed_row}
+use Rattle.ante_objects.specs.declared.objects.ObjectsMap.{ObjectsMap}
+use Rattle.ante_rows.specs.declared.rows.RowsMap.{RowsMap}
+use Rattle.ante_digest.specs.Entries.{counted, packed_account, packed_permission, packed_link, packed_share}
+use Rattle.ante_digest.specs.Entries.{packed_recent, packed_reference, packed_table, packed_row}
 
 -- what an account may use: -1, which is no quota, where it has no entry
 abbrev pub quota : World → Name → ℤ
@@ -44,11 +47,31 @@ pub record Lists : Type 0 where
   pub tables : List (TableKey × TableRow)
   pub rows : List (RowKey × PrimaryRow)
 
--- the last three are the rows of the secondary indexes, of which there are none
+-- the first four lists, of who is there and what they use
+abbrev pub packed_holders : List (Name × AccountRow) → List (Level × PermissionRow) → List (LinkKey × Name) → List (Name × Share) → List ℕ
+packed_holders accounts permissions links usage =
+    counted packed_account accounts ++ counted packed_permission permissions ++ counted packed_link links ++ counted packed_share usage
+
+-- and the others, of what has been and what contracts keep. The last three are the rows of the secondary indexes, of which there are none
+abbrev pub packed_history : List (RecentKey × Unit {0}) → List (ℕ × List ℕ) → List (TableKey × TableRow) → List (RowKey × PrimaryRow) → List ℕ
+packed_history recent references tables rows =
+    counted packed_recent recent ++ counted packed_reference references ++ counted packed_table tables ++ counted packed_row rows ++ 0 ∷ 0 ∷ 0 ∷ []
+
 abbrev pub packed_lists : Lists → List ℕ
-packed_lists s =
-    counted packed_account s.accounts ++ counted packed_permission s.permissions ++ counted packed_link s.links ++ counted packed_share s.usage
-    ++ counted packed_recent s.recent ++ counted packed_reference s.references ++ counted packed_table s.tables ++ counted packed_row s.rows ++ 0 ∷ 0 ∷ 0 ∷ []
+packed_lists s = packed_holders s.accounts s.permissions s.links s.usage ++ packed_history s.recent s.references s.tables s.rows
+
+-- the lists of the parts that a state is kept in
+abbrev pub lists_in : ObjectsMap → List (Name × Share) → RowsMap → Lists
+lists_in objects usage rows = record {
+  accounts = objects.accounts;
+  permissions = objects.permissions;
+  links = objects.links;
+  usage = usage;
+  recent = objects.recent;
+  references = objects.references;
+  tables = rows.tables;
+  rows = rows.rows;
+}
 
 abbrev pub lists_of : World → Lists
 lists_of w = record {

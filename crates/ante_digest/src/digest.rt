@@ -1,8 +1,7 @@
-ghost use Rattle.std.specs.Prelude.{◌≡◌, ◌++◌, [], ◌∷◌};
+ghost use Rattle.std.specs.Prelude.{◌≡◌};
 ghost use Rattle.sha2.specs.Sha256.{sha256};
 ghost use Rattle.ante_digest.specs.Feeds.{Feeds};
-ghost use Rattle.ante_digest.specs.Entries.{counted, packed_account, packed_permission, packed_link, packed_share, packed_recent, packed_reference, packed_table, packed_row};
-ghost use Rattle.ante_digest.specs.Digest.{packed_lists};
+ghost use Rattle.ante_digest.specs.Digest.{packed_holders, packed_history, packed_lists, lists_in};
 
 use crate::feeding::feed_raw;
 use crate::listed::feed_list;
@@ -16,7 +15,7 @@ use sha2::{Digest, Sha256};
 /// permissions, links, usage, recent transactions, references, tables, primary rows, and three lists of index rows, which
 /// are empty.
 pub fn digest_of_parts(objects: &Objects, usage: &Usage, rows: &Rows) -> [u8; 32]
-    ensures { result ≡ sha256 (packed_lists (record { accounts = objects.now.top.accounts; permissions = objects.now.top.permissions; links = objects.now.top.links; usage = usage.now.top; recent = objects.now.top.recent; references = objects.now.top.references; tables = rows.now.top.tables; rows = rows.now.top.rows })) }
+    ensures { result ≡ sha256 (packed_lists (lists_in objects.now.top usage.now.top rows.now.top)) }
 {
     let mut hasher = Sha256::new();
     feed_holders(&mut hasher, objects, usage);
@@ -26,7 +25,7 @@ pub fn digest_of_parts(objects: &Objects, usage: &Usage, rows: &Rows) -> [u8; 32
 
 #[tactic(auto, using(crate::proofs::Fed::onto))]
 fn feed_holders(hasher: &mut Sha256, objects: &Objects, usage: &Usage)
-    ensures { Feeds hasher.old hasher.new (counted packed_account objects.now.top.accounts ++ counted packed_permission objects.now.top.permissions ++ counted packed_link objects.now.top.links ++ counted packed_share usage.now.top) }
+    ensures { Feeds hasher.old hasher.new (packed_holders objects.now.top.accounts objects.now.top.permissions objects.now.top.links usage.now.top) }
 {
     feed_list(hasher, &Accounts(objects));
     feed_list(hasher, &Permissions(objects));
@@ -36,7 +35,7 @@ fn feed_holders(hasher: &mut Sha256, objects: &Objects, usage: &Usage)
 
 #[tactic(auto, using(crate::proofs::Fed::onto))]
 fn feed_history(hasher: &mut Sha256, objects: &Objects, rows: &Rows)
-    ensures { Feeds hasher.old hasher.new (counted packed_recent objects.now.top.recent ++ counted packed_reference objects.now.top.references ++ counted packed_table rows.now.top.tables ++ counted packed_row rows.now.top.rows ++ 0 ∷ 0 ∷ 0 ∷ []) }
+    ensures { Feeds hasher.old hasher.new (packed_history objects.now.top.recent objects.now.top.references rows.now.top.tables rows.now.top.rows) }
 {
     feed_list(hasher, &Recent(objects));
     feed_list(hasher, &References(objects));

@@ -2,7 +2,8 @@
 ghost use Rattle.std.specs.Prelude.{◌≡◌, Some, None};
 ghost use Rattle.std.specs.Option.{option_map};
 ghost use Rattle.ante_objects.specs.Objects.{link_key, recent_key};
-ghost use Rattle.ante_digest.specs.Entries.{packed_account, packed_permission, packed_link, packed_share, packed_recent, packed_reference, packed_table, packed_row};
+ghost use Rattle.ante_digest.specs.Entries.{packed_account, packed_permission, packed_link, packed_share};
+ghost use Rattle.ante_digest.specs.Entries.{packed_recent, packed_reference, packed_table, packed_row};
 
 use crate::entries::{
     feed_account, feed_link, feed_permission, feed_recent, feed_reference, feed_row, feed_share,

@@ -12,7 +12,11 @@ use Rattle.ante_objects.specs.declared.objects.ObjectsMap.{ObjectsMap}
 abbrev later : {A B : Type 0} → A × B → B
 later p = p.1
 
-abbrev pub shown_objects : ((List (Level × PermissionRow) × List (LinkKey × Name)) × List (Name × AccountRow)) × (List (RecentKey × Unit {0}) × List (ℕ × List ℕ)) → ObjectsMap
+-- permissions and links, the accounts beside them, and the recent transactions and references beside all of these
+abbrev pub Parted : Type 0
+Parted = ((List (Level × PermissionRow) × List (LinkKey × Name)) × List (Name × AccountRow)) × (List (RecentKey × Unit {0}) × List (ℕ × List ℕ))
+
+abbrev pub shown_objects : Parted → ObjectsMap
 shown_objects m = record {
   accounts = m.0.1;
   permissions = m.0.0.0;

@@ -1,9 +1,7 @@
 // Changes of objects: each puts an object at its key, or takes it away.
-ghost use Rattle.std.specs.Prelude.{◌≡◌, Some, None, OnOk, OnErr, if◌then◌else◌};
-ghost use Rattle.std.specs.Ordering.{nat_cmp};
+ghost use Rattle.std.specs.Prelude.{◌≡◌, OnOk, OnErr};
 ghost use Rattle.ante_undo.specs.Stack.{with_top, IsAbove};
-ghost use Rattle.ante_undo.specs.Entries.{changed};
-ghost use Rattle.ante_objects.specs.Objects.{with_accounts, with_permissions, with_links, with_recent, with_references};
+ghost use Rattle.ante_objects.specs.Objects.{link_key, recent_key, account_set, permission_set, link_set, recent_set, reference_set};
 
 use crate::objects::Objects;
 use ante_pack::{Digest, Level, Name};
@@ -20,7 +18,7 @@ impl Objects {
         row: Option<AccountRow>,
     ) -> Result<(), AllocError>
         requires above { IsAbove 1 self.old }
-        ensures ok { OnOk result (self.new ≡ with_top (with_accounts (changed ⟦<Name as Ord>⟧.cmp self.old.top.accounts name row) self.old.top) self.old) }
+        ensures ok { OnOk result (self.new ≡ with_top (account_set name row self.old.top) self.old) }
         ensures err { OnErr result (self.new ≡ self.old) }
     {
         let first = &mut self.kept.inner.first;
@@ -35,7 +33,7 @@ impl Objects {
         row: Option<PermissionRow>,
     ) -> Result<(), AllocError>
         requires above { IsAbove 1 self.old }
-        ensures ok { OnOk result (self.new ≡ with_top (with_permissions (changed ⟦<Level as Ord>⟧.cmp self.old.top.permissions level row) self.old.top) self.old) }
+        ensures ok { OnOk result (self.new ≡ with_top (permission_set level row self.old.top) self.old) }
         ensures err { OnErr result (self.new ≡ self.old) }
     {
         let first = &mut self.kept.inner.first;
@@ -52,7 +50,7 @@ impl Objects {
         requirement: Option<Name>,
     ) -> Result<(), AllocError>
         requires above { IsAbove 1 self.old }
-        ensures ok { OnOk result (self.new ≡ with_top (with_links (changed ⟦<LinkKey as Ord>⟧.cmp self.old.top.links (record { account = account; code = code; action = action }) requirement) self.old.top) self.old) }
+        ensures ok { OnOk result (self.new ≡ with_top (link_set (link_key (account, code, action)) requirement self.old.top) self.old) }
         ensures err { OnErr result (self.new ≡ self.old) }
     {
         let key = LinkKey {
@@ -73,7 +71,7 @@ impl Objects {
         there: bool,
     ) -> Result<(), AllocError>
         requires above { IsAbove 1 self.old }
-        ensures ok { OnOk result (self.new ≡ with_top (with_recent (changed ⟦<RecentKey as Ord>⟧.cmp self.old.top.recent (record { expiration = expiration; id = id }) (if there then Some tt else None)) self.old.top) self.old) }
+        ensures ok { OnOk result (self.new ≡ with_top (recent_set (recent_key (expiration, id)) there self.old.top) self.old) }
         ensures err { OnErr result (self.new ≡ self.old) }
     {
         let key = RecentKey { expiration, id };
@@ -89,7 +87,7 @@ impl Objects {
         id: Option<Digest>,
     ) -> Result<(), AllocError>
         requires above { IsAbove 1 self.old }
-        ensures ok { OnOk result (self.new ≡ with_top (with_references (changed nat_cmp self.old.top.references low id) self.old.top) self.old) }
+        ensures ok { OnOk result (self.new ≡ with_top (reference_set low id self.old.top) self.old) }
         ensures err { OnErr result (self.new ≡ self.old) }
     {
         let parts = &mut self.kept.inner;

@@ -1,8 +1,9 @@
 // Recent transactions and references.
-ghost use Rattle.std.specs.Prelude.{◌≡◌, [], ◌<◌, ◌^◌, Some, None, if◌then◌else◌, OnOk, OnErr};
+ghost use Rattle.std.specs.Prelude.{◌≡◌, [], ◌<◌, ◌^◌, OnOk, OnErr};
 ghost use Rattle.std.specs.Ordering.{nat_cmp};
 ghost use Rattle.ante_undo.specs.Stack.{opened, with_top, IsAbove};
 ghost use Rattle.ante_undo.specs.Entries.{changed};
+ghost use Rattle.ante_objects.specs.Objects.{there_if};
 
 use ante_pack::Digest;
 use ante_sessions::{Both, Entries, Sessions, set_entry};
@@ -59,7 +60,7 @@ impl History {
         there: bool,
     ) -> Result<(), AllocError>
         requires above { IsAbove 1 self.old }
-        ensures ok { OnOk result (self.new ≡ with_top (changed ⟦<RecentKey as Ord>⟧.cmp self.old.top.0 key (if there then Some tt else None), self.old.top.1) self.old) }
+        ensures ok { OnOk result (self.new ≡ with_top (changed ⟦<RecentKey as Ord>⟧.cmp self.old.top.0 key (there_if there), self.old.top.1) self.old) }
         ensures err { OnErr result (self.new ≡ self.old) }
     {
         let value = if there { Some(()) } else { None };

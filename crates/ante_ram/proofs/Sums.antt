@@ -1,5 +1,5 @@
 -- The sum of all usage after a change of one account's share, and the rule that it keeps.
-use Rattle.std.proofs.Common.{◌≡◌, ℕ, ◌+◌, ◌-◌, ◌≤◌, ℤ, true, false, cond, not, T, List, [], ◌∷◌, length, slice_index_or, Result, Ok, Err, OnOk, OnErr, Option, Some, None, refl, sym, ap, subst, ◌∙◌, arith, Ordering, Less, Equal, Greater, is_eq}
+use Rattle.std.proofs.Common.{◌≡◌, ℕ, ◌+◌, ◌-◌, ◌≤◌, ℤ, true, false, cond, not, T, List, [], ◌∷◌, length, slice_index_or, Result, Ok, Err, OnOk, OnErr, Option, Some, None, IfSome, refl, sym, ap, subst, ◌∙◌, arith, Ordering, Less, Equal, Greater, is_eq}
 use Rattle.std.specs.Ordering.{eq_by_cmp, nat_cmp}
 use Rattle.std.specs.Cmp.{IsTotalOrder}
 use Rattle.std.specs.List.{AllByRecursion}
@@ -7,7 +7,7 @@ use Rattle.std.specs.FinMap.Entries.{by_order, find, is_sorted}
 use Rattle.std.proofs.lemmas.Bool.Decides.{nat_tests}
 use Rattle.std.proofs.lemmas.Cmp.{tied_itself, nat_cmp_total}
 use Rattle.ante_undo.specs.Entries.{with_entry, without_key, changed}
-use Rattle.ante_undo.proofs.Entries.{find_changed, sorted_changed}
+use Rattle.ante_undo.proofs.Entries.{find_changed, sorted_changed, all_changed}
 use Rattle.ante_sums.specs.Weights.{weight_at}
 use Rattle.ante_sums.proofs.Changed.{weight_within, weight_changed}
 use Rattle.std.proofs.lemmas.Slice.Zip.{firsts-zip}
@@ -31,32 +31,15 @@ used_is k (Some share) = refl
 pub used_within : (cmp : Name → Name → Ordering) (k : Name) (es : List (Name × Share)) → used_of (find cmp k es) ≤ usage_sum es
 used_within cmp k es = omega (arith, used_is k (find cmp k es), weight_within cmp (λ e. e.1.used) (λ k x share tied. refl) k es)
 
--- the entry of an account is counted, where there is one
+-- an account's entry is not free, where there is one
+entry_counted : (used : ℕ) (quota : ℤ) → IfSome (entry_of used quota) (λ share. T (not (is_free share.used share.quota)))
+entry_counted used quota =
+    elim (is_free used quota) as (λ b. is_free used quota ≡ b → IfSome (cond b None (Some (record { used = used; quota = quota }))) (λ (share : Share). T (not (is_free share.used share.quota)))) [
+      | true ↦ λ p. tt
+      | false ↦ λ p. subst (λ b. T (not b)) (sym p) tt
+    ] refl
+
 module _ (cmp : Name → Name → Ordering) where
-  all_with : (k : Name) (v : Share) (es : List (Name × Share)) → AllByRecursion (λ e. T (not (is_free e.1.used e.1.quota))) es → T (not (is_free v.used v.quota)) → AllByRecursion (λ e. T (not (is_free e.1.used e.1.quota))) (with_entry cmp k v es)
-  all_with k v [] all q = (q, tt)
-  all_with k v (e ∷ es) all q =
-      elim (cmp k e.0) as (λ r. AllByRecursion (λ e. T (not (is_free e.1.used e.1.quota))) (by_order r ((k, v) ∷ e ∷ es) ((k, v) ∷ es) (e ∷ with_entry cmp k v es))) [
-        | Less ↦ (q, all)
-        | Equal ↦ (q, all.1)
-        | Greater ↦ (all.0, all_with k v es all.1 q)
-      ]
-
-  all_without : (k : Name) (es : List (Name × Share)) → AllByRecursion (λ e. T (not (is_free e.1.used e.1.quota))) es → AllByRecursion (λ e. T (not (is_free e.1.used e.1.quota))) (without_key cmp k es)
-  all_without k [] all = tt
-  all_without k (e ∷ es) all =
-      elim (eq_by_cmp cmp k e.0) as (λ b. AllByRecursion (λ e. T (not (is_free e.1.used e.1.quota))) (cond (not b) (e ∷ without_key cmp k es) (without_key cmp k es))) [
-        | true ↦ all_without k es all.1
-        | false ↦ (all.0, all_without k es all.1)
-      ]
-
-  counted_share : (k : Name) (used : ℕ) (quota : ℤ) (es : List (Name × Share)) → AllByRecursion (λ e. T (not (is_free e.1.used e.1.quota))) es → AllByRecursion (λ e. T (not (is_free e.1.used e.1.quota))) (with_share cmp k used quota es)
-  counted_share k used quota es all =
-      elim (is_free used quota) as (λ b. is_free used quota ≡ b → AllByRecursion (λ e. T (not (is_free e.1.used e.1.quota))) (changed cmp es k (cond b None (Some (record { used = used; quota = quota }))))) [
-        | true ↦ λ p. all_without k es all
-        | false ↦ λ p. all_with k (record { used = used; quota = quota }) es all (subst (λ b. T (not b)) (sym p) tt)
-      ] refl
-
   module _ (o : IsTotalOrder cmp) where
     free_uses_nothing : (used : ℕ) (quota : ℤ) → is_free used quota ≡ true → used ≡ 0
     free_uses_nothing used quota h = grind (arith, nat_tests)
@@ -99,7 +82,7 @@ module _ (cmp : Name → Name → Ordering) where
       total = subst (λ r. r.used + used_of (find cmp r.account (with_share cmp rest.account used quota m.0)) ≡ usage_sum (with_share cmp rest.account used quota m.0)) (sym (rest_found rest m.1))
           (omega (arith, used_share rest.account used quota m.0, sum_share rest.account used quota m.0 is.sorted));
       small = omega (arith, sum_share rest.account used quota m.0 is.sorted);
-      counted = counted_share rest.account used quota m.0 is.counted;
+      counted = all_changed cmp (λ e. T (not (is_free e.1.used e.1.quota))) m.0 rest.account (entry_of used quota) (entry_counted used quota) is.counted;
     }
 
     -- a writing call first writes the rest down and then the share, or is refused before one of them

@@ -1,5 +1,6 @@
 -- The memory that accounts use and may use.
-use Rattle.std.specs.Prelude.{ℕ, ◌+◌, ◌-◌, suc, ℤ, pos, negsuc, Bool, not, ◌==◌, ◌&&◌, nat_lt, List, [], ◌∷◌, Option, Some, None, if◌then◌else◌}
+use Rattle.std.specs.Prelude.{ℕ, ◌+◌, ◌-◌, suc, ℤ, pos, negsuc, List, [], ◌∷◌, Option, Some, None}
+use Rattle.std.specs.Prelude.{Bool, not, ◌==◌, ◌&&◌, nat_lt, if◌then◌else◌}
 use Rattle.std.specs.Ordering.{int_eq}
 use Rattle.std.specs.declared.cmp.Ordering.{Ordering}
 use Rattle.std.specs.FinMap.Entries.{find}

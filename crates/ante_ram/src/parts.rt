@@ -3,7 +3,8 @@ ghost use Rattle.std.specs.Prelude.{◌≡◌, Some, OnOk, OnErr, Bool, ◌==◌
 ghost use Rattle.std.specs.Ordering.{nat_cmp};
 ghost use Rattle.ante_undo.specs.Stack.{with_top, IsAbove};
 ghost use Rattle.ante_undo.specs.Entries.{changed};
-ghost use Rattle.ante_ram.specs.Usage.{is_free, entry_of};
+ghost use Rattle.ante_state.specs.Orders.{name_order};
+ghost use Rattle.ante_ram.specs.Usage.{is_free, with_share};
 ghost use Rattle.ante_ram.specs.Total.{IsSummed};
 
 use ante_pack::Name;
@@ -69,7 +70,7 @@ pub(crate) fn put_share(
     share: Share,
 ) -> Result<(), AllocError>
     requires above { IsAbove 1 parts.old }
-    ensures ok { OnOk result (parts.new ≡ with_top (changed ⟦<Name as Ord>⟧.cmp parts.old.top.0 account (entry_of share.used share.quota), parts.old.top.1) parts.old) }
+    ensures ok { OnOk result (parts.new ≡ with_top (with_share name_order account share.used share.quota parts.old.top.0, parts.old.top.1) parts.old) }
     ensures err { OnErr result (parts.new ≡ parts.old) }
 {
     if share.is_free() {

@@ -1,4 +1,5 @@
-ghost use Rattle.std.specs.Prelude.{◌≡◌, ℕ, ℤ, pos, ◌+◌, ◌-◌, ◌^◌, ◌<◌, ◌≤◌, [], length, Some, None, Err, IfSome, OnSome, T, IsTrue, OnOk, OnErr, IfOk, IfErr, not, ◌↔◌, negsuc};
+ghost use Rattle.std.specs.Prelude.{◌≡◌, ℕ, ℤ, pos, negsuc, ◌+◌, ◌-◌, ◌^◌, ◌<◌, ◌≤◌, ◌↔◌, not, [], length, T, IsTrue};
+ghost use Rattle.std.specs.Prelude.{Some, None, Err, IfSome, OnSome, OnOk, OnErr, IfOk, IfErr};
 ghost use Rattle.std.specs.List.{AllByRecursion};
 ghost use Rattle.std.specs.Option.{option_map};
 ghost use Rattle.std.specs.FinMap.{IsAntisymmetric};
@@ -7,7 +8,8 @@ ghost use Rattle.ante_undo.specs.Stack.{opened, with_top, begun, committed, unde
 ghost use Rattle.ante_undo.specs.Entries.{first_entry};
 ghost use Rattle.ante_sessions.specs.Walk.{past};
 ghost use Rattle.ante_state.specs.Billing.{most_usage};
-ghost use Rattle.ante_ram.specs.Usage.{used_of, quota_of, usage_sum, with_share, with_change, with_quota, moved, fall, is_free, first_over, shown_share, exceeds};
+ghost use Rattle.ante_ram.specs.Usage.{used_of, quota_of, usage_sum, is_free, moved, fall, exceeds, shown_share};
+ghost use Rattle.ante_ram.specs.Usage.{with_share, with_change, with_quota, first_over};
 ghost use Rattle.ante_ram.specs.Least.{over_at, lesser_over, least_over};
 ghost use Rattle.ante_ram.specs.declared.usage.RamFault.TheVariants.{OutOfMemory, RamTotal};
 
@@ -20,12 +22,15 @@ use ante_undo::Layered;
 use std::alloc::{AllocError, Global};
 use std::collections::LinkedList;
 use std::marker::{Model, PhantomData};
+use thiserror::Error;
 
 /// Why usage can't be changed.
-#[derive(Clone, Copy, Debug, PartialEq, Eq)]
+#[derive(Clone, Copy, Debug, PartialEq, Eq, Error)]
 pub enum RamFault {
+    #[error("out of memory")]
     OutOfMemory,
     /// All usage together would pass 2^62.
+    #[error("all accounts together would use more than 2^62 bytes")]
     RamTotal,
 }
 

@@ -8,7 +8,7 @@ use Rattle.std.proofs.lemmas.List.{take-append-drop, map-append}
 use Rattle.std.proofs.lemmas.Grind.{flat_map-append}
 use Rattle.std.proofs.lemmas.Cmp.{tied_itself}
 use Rattle.ante_undo.specs.Entries.{with_entry}
-use Rattle.ante_undo.proofs.Entries.{first, second, less}
+use Rattle.ante_undo.proofs.Entries.{both, first, second, less}
 use Rattle.ante_undo.proofs.Lists.{all_append}
 use Rattle.ante_pack.specs.declared.names.Name.{Name}
 use Rattle.ante_pack.specs.declared.authority.Level.{Level}
@@ -25,10 +25,6 @@ use Rattle.ante_store.specs.declared.parts.Maps.{Maps}
 use Rattle.ante_store.specs.Worlds.{world_of, IsBilled}
 use Rattle.ante_store.proofs.KeyOrders.{names_total, levels_total}
 use Rattle.ante_store.proofs.Rebilled.{take_next}
-
-both : (a b : Bool) → T a → T b → T (a && b)
-both true b p q = q
-both false b p q = p
 
 module _ {K V : Type 0} (cmp : K → K → Ordering) where
   -- each of these keys is below the key

@@ -5,16 +5,12 @@ use Rattle.std.specs.Cmp.{IsTotalOrder}
 use Rattle.std.specs.FinMap.Entries.{find, is_sorted, below_all, same_entries}
 use Rattle.std.proofs.lemmas.Bool.Decides.{Decides-int_eq}
 use Rattle.ante_undo.specs.Entries.{changed}
-use Rattle.ante_undo.proofs.Entries.{first, second, find_changed, sorted_changed}
+use Rattle.ante_undo.proofs.Entries.{both, first, second, find_changed, sorted_changed}
 use Rattle.ante_sums.proofs.Changed.{absent, not_above}
 use Rattle.ante_pack.specs.declared.names.Name.{Name}
 use Rattle.ante_ram.specs.declared.parts.Share.{Share}
 use Rattle.ante_ram.specs.Usage.{quota_of, is_free, entry_of, with_share}
 use Rattle.ante_store.specs.Bills.{limit, quotas_of}
-
-both : (a b : Bool) → T a → T b → T (a && b)
-both true b p q = q
-both false b p q = p
 
 second_true : (a b : Bool) → (a && b) ≡ true → b ≡ true
 second_true true b p = p

@@ -1,5 +1,5 @@
 -- Usage and quotas as the store keeps them, against the bills of the world.
-use Rattle.std.specs.Prelude.{◌≡◌, ℕ, ◌+◌, ℤ, negsuc, T, nat_le, List, [], ◌∷◌, Option, Some, None, if◌then◌else◌}
+use Rattle.std.specs.Prelude.{◌≡◌, ℕ, ◌+◌, ◌-◌, ℤ, negsuc, T, nat_le, List, [], ◌∷◌, Option, Some, None, if◌then◌else◌}
 use Rattle.std.specs.List.{sum_by}
 use Rattle.std.specs.Ordering.{int_eq}
 use Rattle.std.specs.FinMap.Entries.{find, is_sorted}
@@ -9,7 +9,7 @@ use Rattle.ante_state.specs.Orders.{name_order}
 use Rattle.ante_state.specs.declared.tables.TableRow.{TableRow}
 use Rattle.ante_types.specs.World.{World, bills, paid_by}
 use Rattle.ante_ram.specs.declared.parts.Share.{Share}
-use Rattle.ante_ram.specs.Usage.{used_of, usage_sum}
+use Rattle.ante_ram.specs.Usage.{used_of, usage_sum, with_used}
 
 -- a quota, unless it is -1, which is none
 abbrev pub limit : ℤ → Option ℤ
@@ -26,6 +26,13 @@ paid account bills = sum_by (paid_by account) bills
 
 abbrev pub sizes : List (Name × ℕ) → ℕ
 sizes bills = sum_by (λ bill. bill.1) bills
+
+-- usage with so much taken out of what an account uses, and with so much added
+abbrev pub lowered : Name → ℕ → List (Name × Share) → List (Name × Share)
+lowered account size shares = with_used name_order account (used_of (find name_order account shares) - size) shares
+
+abbrev pub raised : Name → ℕ → List (Name × Share) → List (Name × Share)
+raised account size shares = with_used name_order account (used_of (find name_order account shares) + size) shares
 
 -- these bills were taken out of the usage, those were added to it, and nothing else changed
 pub record IsRebilled (removed added : List (Name × ℕ)) (old new : List (Name × Share)) : Type 0 where

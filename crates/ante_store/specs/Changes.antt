@@ -56,7 +56,9 @@ set_row table primary row w = changed row_order w.rows (record { table = table; 
 
 abbrev pub after : Change → World → World
 after (change.StoreRow table primary payer bytes) w =
-    with_rows (changed table_order w.tables table (Some (with_row (find table_order table w.tables) payer))) (set_row table primary (Some (record { payer = payer; bytes = bytes })) w) w
+    with_rows
+    (changed table_order w.tables table (Some (with_row (find table_order table w.tables) payer)))
+    (set_row table primary (Some (record { payer = payer; bytes = bytes })) w) w
 after (change.UpdateRow table primary payer bytes) w =
     with_rows w.tables (set_row table primary (Some (record { payer = payer; bytes = bytes })) w) w
 after (change.RemoveRow table primary) w =

@@ -4,9 +4,9 @@ ghost use Rattle.std.specs.FinMap.Entries.{find, is_sorted};
 ghost use Rattle.ante_undo.specs.Stack.{with_top, IsAbove};
 ghost use Rattle.ante_state.specs.Orders.{name_order};
 ghost use Rattle.ante_state.specs.Billing.{most_usage};
-ghost use Rattle.ante_ram.specs.Usage.{used_of, usage_sum, with_used};
+ghost use Rattle.ante_ram.specs.Usage.{used_of, usage_sum};
 ghost use Rattle.ante_ram.specs.declared.usage.RamFault.TheVariants.{OutOfMemory, RamTotal};
-ghost use Rattle.ante_store.specs.Bills.{paid, sizes, IsRebilled};
+ghost use Rattle.ante_store.specs.Bills.{paid, sizes, lowered, raised, IsRebilled};
 ghost use Rattle.ante_store.specs.Worlds.{IsBilled};
 ghost use Rattle.ante_store.specs.Applied.{IsUnpaid, with_usage};
 
@@ -23,7 +23,7 @@ fn lower(alloc: Global, usage: &mut Usage, payer: Name, size: u128) -> Result<()
     requires small { usage_sum usage.old.top ≤ most_usage }
     requires within { size ≤ used_of (find name_order payer usage.old.top) }
     requires fits { size ≤ most_usage }
-    ensures ok { OnOk result (usage.new ≡ with_top (with_used name_order payer (used_of (find name_order payer usage.old.top) - size) usage.old.top) usage.old) }
+    ensures ok { OnOk result (usage.new ≡ with_top (lowered payer size usage.old.top) usage.old) }
     ensures fault { IfErr result (λ fault. fault ≡ OutOfMemory) }
     ensures err { OnErr result (usage.new ≡ usage.old) }
 {
@@ -32,7 +32,7 @@ fn lower(alloc: Global, usage: &mut Usage, payer: Name, size: u128) -> Result<()
 
 fn raise(alloc: Global, usage: &mut Usage, payer: Name, size: u128) -> Result<(), RamFault>
     requires above { IsAbove 1 usage.old }
-    ensures ok { OnOk result (usage.new ≡ with_top (with_used name_order payer (used_of (find name_order payer usage.old.top) + size) usage.old.top) usage.old) }
+    ensures ok { OnOk result (usage.new ≡ with_top (raised payer size usage.old.top) usage.old) }
     ensures total { (result ≡ Err RamTotal) ↔ (most_usage < usage_sum usage.old.top + size) }
     ensures small { OnOk result (usage_sum usage.old.top + size ≤ most_usage) }
     ensures err { OnErr result (usage.new ≡ usage.old) }

@@ -3,6 +3,7 @@ ghost use Rattle.std.specs.Prelude.{◌≡◌, ◌+◌, [], ◌∷◌, ◌++◌,
 ghost use Rattle.std.specs.FinMap.Entries.{find};
 ghost use Rattle.ante_state.specs.Orders.{name_order, level_order, link_order};
 ghost use Rattle.ante_state.specs.Billing.{row_size};
+ghost use Rattle.ante_objects.specs.Objects.{link_key, requirement_of};
 ghost use Rattle.ante_types.specs.World.{account_bills, permission_bills, link_bills};
 ghost use Rattle.ante_store.specs.Bills.{bills_at, opening_bills, closing_bills};
 
@@ -155,7 +156,7 @@ pub(crate) fn added_permission(level: Level, row: &Option<PermissionRow>) -> Bil
 
 /// The bill of the link as it stands.
 pub(crate) fn removed_link(parts: &Parts, account: Name, code: Name, action: Name) -> Bills
-    ensures { result ≡ bills_at link_bills (record { account = account; code = code; action = action }) (find link_order (record { account = account; code = code; action = action }) parts.now.top.objects.links) }
+    ensures { result ≡ bills_at link_bills (link_key (account, code, action)) (requirement_of (account, code, action) parts.now.top.objects) }
 {
     let requirement = objects_of(parts).link(account, code, action);
     of_link(account, code, action, requirement)
@@ -163,7 +164,7 @@ pub(crate) fn removed_link(parts: &Parts, account: Name, code: Name, action: Nam
 
 /// The bill of a link, where it stands.
 pub(crate) fn of_link(account: Name, code: Name, action: Name, requirement: Option<Name>) -> Bills
-    ensures { result ≡ bills_at link_bills (record { account = account; code = code; action = action }) requirement }
+    ensures { result ≡ bills_at link_bills (link_key (account, code, action)) requirement }
 {
     match requirement {
         Some(_) => Bills::one((account, LINK_SIZE)),

@@ -4,6 +4,7 @@ ghost use Rattle.ante_store.specs.declared.change.WriteError.TheVariants.{OutOfM
 use ante_pack::{Bytes, Digest, Level, Name, TableKey};
 use ante_state::{AccountRow, PermissionRow};
 use std::alloc::AllocError;
+use thiserror::Error;
 
 /// One change of the chain's state.
 #[derive(Debug, Drop)]
@@ -58,16 +59,21 @@ pub enum Change {
 }
 
 /// Why a change isn't made.
-#[derive(Clone, Copy, Debug, PartialEq, Eq)]
+#[derive(Clone, Copy, Debug, PartialEq, Eq, Error)]
 pub enum WriteError {
+    #[error("out of memory")]
     OutOfMemory,
     /// Nothing may be written here.
+    #[error("nothing may be written here")]
     WriteRefused,
     /// All accounts together would use more than 2^62 bytes, or a table would have more than 4,294,967,295 rows.
+    #[error("all accounts together would use too much memory, or the table would have too many rows")]
     RamTotal,
     /// The row isn't there.
+    #[error("the row is not there")]
     Missing,
     /// The row is there already.
+    #[error("the row is there already")]
     Exists,
 }
 

@@ -1,13 +1,11 @@
 // Each map of the parts, read, and changed at one key.
-ghost use Rattle.std.specs.Prelude.{◌≡◌, Some, None, if◌then◌else◌, OnOk, OnErr, IfErr, is_some};
+ghost use Rattle.std.specs.Prelude.{◌≡◌, Some, None, OnOk, OnErr, IfErr, is_some};
 ghost use Rattle.std.specs.Option.{option_copied};
-ghost use Rattle.std.specs.Ordering.{nat_cmp};
 ghost use Rattle.std.specs.FinMap.Entries.{find};
 ghost use Rattle.ante_undo.specs.Stack.{with_top, IsAbove};
-ghost use Rattle.ante_undo.specs.Entries.{changed};
-ghost use Rattle.ante_state.specs.Orders.{name_order, table_order, row_order, level_order, link_order, recent_order};
+ghost use Rattle.ante_state.specs.Orders.{name_order, table_order, row_order};
 ghost use Rattle.ante_rows.specs.Rows.{table_set, row_set};
-ghost use Rattle.ante_objects.specs.Objects.{with_accounts, with_permissions, with_links, with_recent, with_references};
+ghost use Rattle.ante_objects.specs.Objects.{link_key, recent_key, account_set, permission_set, link_set, recent_set, reference_set};
 ghost use Rattle.ante_ram.specs.Usage.{with_quota};
 ghost use Rattle.ante_ram.specs.declared.usage.RamFault.TheVariants.{OutOfMemory};
 ghost use Rattle.ante_store.specs.Applied.{in_rows, in_objects, with_usage};
@@ -109,7 +107,7 @@ pub(crate) fn put_account(
     row: AccountRow,
 ) -> Result<(), AllocError>
     requires above { IsAbove 1 parts.old }
-    ensures ok { OnOk result (parts.new ≡ with_top (in_objects (λ m. with_accounts (changed name_order m.accounts name (Some row)) m) parts.old.top) parts.old) }
+    ensures ok { OnOk result (parts.new ≡ with_top (in_objects (account_set name (Some row)) parts.old.top) parts.old) }
     ensures err { OnErr result (parts.new ≡ parts.old) }
 {
     let both = &mut parts.inner;
@@ -124,7 +122,7 @@ pub(crate) fn put_permission(
     row: Option<PermissionRow>,
 ) -> Result<(), AllocError>
     requires above { IsAbove 1 parts.old }
-    ensures ok { OnOk result (parts.new ≡ with_top (in_objects (λ m. with_permissions (changed level_order m.permissions level row) m) parts.old.top) parts.old) }
+    ensures ok { OnOk result (parts.new ≡ with_top (in_objects (permission_set level row) parts.old.top) parts.old) }
     ensures err { OnErr result (parts.new ≡ parts.old) }
 {
     let both = &mut parts.inner;
@@ -141,7 +139,7 @@ pub(crate) fn put_link(
     requirement: Option<Name>,
 ) -> Result<(), AllocError>
     requires above { IsAbove 1 parts.old }
-    ensures ok { OnOk result (parts.new ≡ with_top (in_objects (λ m. with_links (changed link_order m.links (record { account = account; code = code; action = action }) requirement) m) parts.old.top) parts.old) }
+    ensures ok { OnOk result (parts.new ≡ with_top (in_objects (link_set (link_key (account, code, action)) requirement) parts.old.top) parts.old) }
     ensures err { OnErr result (parts.new ≡ parts.old) }
 {
     let both = &mut parts.inner;
@@ -159,7 +157,7 @@ pub(crate) fn put_recent(
     there: bool,
 ) -> Result<(), AllocError>
     requires above { IsAbove 1 parts.old }
-    ensures ok { OnOk result (parts.new ≡ with_top (in_objects (λ m. with_recent (changed recent_order m.recent (record { expiration = expiration; id = id }) (if there then Some tt else None)) m) parts.old.top) parts.old) }
+    ensures ok { OnOk result (parts.new ≡ with_top (in_objects (recent_set (recent_key (expiration, id)) there) parts.old.top) parts.old) }
     ensures err { OnErr result (parts.new ≡ parts.old) }
 {
     let both = &mut parts.inner;
@@ -174,7 +172,7 @@ pub(crate) fn put_reference(
     id: Digest,
 ) -> Result<(), AllocError>
     requires above { IsAbove 1 parts.old }
-    ensures ok { OnOk result (parts.new ≡ with_top (in_objects (λ m. with_references (changed nat_cmp m.references low (Some id)) m) parts.old.top) parts.old) }
+    ensures ok { OnOk result (parts.new ≡ with_top (in_objects (reference_set low (Some id)) parts.old.top) parts.old) }
     ensures err { OnErr result (parts.new ≡ parts.old) }
 {
     let both = &mut parts.inner;

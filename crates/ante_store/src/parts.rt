@@ -1,7 +1,7 @@
 // What the store is made of.
-ghost use Rattle.std.specs.Prelude.{◌≡◌, [], ◌<◌, ◌^◌};
+ghost use Rattle.std.specs.Prelude.{◌≡◌, ◌<◌, ◌^◌};
 ghost use Rattle.ante_undo.specs.Stack.{opened};
-ghost use Rattle.ante_store.specs.Shown.{shown_maps};
+ghost use Rattle.ante_store.specs.Shown.{no_maps, shown_maps};
 
 use ante_objects::{Objects, ObjectsMap};
 use ante_pack::Name;
@@ -34,7 +34,7 @@ pub(crate) type Parts = Kept<Both<Both<Rows, Objects>, Usage>, MapsRule>;
 /// Nothing at all, at the revision.
 pub(crate) fn no_parts(alloc: Global, revision: u64) -> Parts
     requires small { revision < 2 ^ 63 }
-    ensures { result ≡ opened (record { rows = record { tables = []; rows = [] }; objects = record { accounts = []; permissions = []; links = []; recent = []; references = [] }; usage = [] }) revision }
+    ensures { result ≡ opened no_maps revision }
 {
     let both = Both {
         first: Rows::new(alloc, revision),

@@ -2,7 +2,7 @@ use Rattle.std.proofs.Common.{refl, Some}
 use Rattle.std.proofs.lemmas.Result.{err_from_is_err_and}
 use Rattle.ante_undo.specs.Entries.{changed}
 use Rattle.ante_state.specs.Orders.{name_order}
-use Rattle.ante_objects.specs.Objects.{with_accounts}
+use Rattle.ante_objects.specs.Objects.{account_set}
 use Rattle.ante_store.specs.Applied.{in_objects}
 use Rattle.ante_store.proofs.Made.{leads_as, leads_within, made_then, unpaid}
 use Rattle.ante_store.proofs.ObjectChanges.{account_leads}
@@ -18,6 +18,6 @@ returns-in_err-rebill-clause-answers c =
 
 pub returns-clause-answers : goal.returns-clause-answers
 returns-clause-answers c =
-    made_then _ _ _ (in_objects (λ m. with_accounts (changed name_order m.accounts c.args.name (Some c.args.row)) m)) _ c.args.parts.now c.rebill.new.parts c.put_account.new.parts (λ shares. refl) c.requires.billed
+    made_then _ _ _ (in_objects (account_set c.args.name (Some c.args.row))) _ c.args.parts.now c.rebill.new.parts c.put_account.new.parts (λ shares. refl) c.requires.billed
     (leads_as _ _ _ _ _ _ _ c.removed_account-removed.ensures c.of_account-added.ensures (account_leads c.args.name c.args.row c.args.parts.now.top c.requires.billed))
     c.in_ok-rebill.ensures.ok c.in_ok-rebill.ensures.small c.in_ok-rebill.ensures.same c.in_ok-put_account.ensures.ok

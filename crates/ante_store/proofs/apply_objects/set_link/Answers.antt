@@ -2,7 +2,7 @@ use Rattle.std.proofs.Common.{refl}
 use Rattle.std.proofs.lemmas.Result.{err_from_is_err_and}
 use Rattle.ante_undo.specs.Entries.{changed}
 use Rattle.ante_state.specs.Orders.{link_order}
-use Rattle.ante_objects.specs.Objects.{with_links}
+use Rattle.ante_objects.specs.Objects.{link_set}
 use Rattle.ante_store.specs.Applied.{in_objects}
 use Rattle.ante_store.proofs.Made.{leads_as, leads_within, made_then, unpaid}
 use Rattle.ante_store.proofs.ObjectChanges.{link_leads}
@@ -18,6 +18,6 @@ returns-in_err-rebill-clause-answers c =
 
 pub returns-clause-answers : goal.returns-clause-answers
 returns-clause-answers c =
-    made_then _ _ _ (in_objects (λ m. with_links (changed link_order m.links (record { account = c.args.account; code = c.args.code; action = c.args.action }) c.args.requirement) m)) _ c.args.parts.now c.rebill.new.parts c.put_link.new.parts (λ shares. refl) c.requires.billed
+    made_then _ _ _ (in_objects (link_set (record { account = c.args.account; code = c.args.code; action = c.args.action }) c.args.requirement)) _ c.args.parts.now c.rebill.new.parts c.put_link.new.parts (λ shares. refl) c.requires.billed
     (leads_as _ _ _ _ _ _ _ c.removed_link-removed.ensures c.of_link-added.ensures (link_leads (record { account = c.args.account; code = c.args.code; action = c.args.action }) c.args.requirement c.args.parts.now.top c.requires.billed))
     c.in_ok-rebill.ensures.ok c.in_ok-rebill.ensures.small c.in_ok-rebill.ensures.same c.in_ok-put_link.ensures.ok
