@@ -5,8 +5,8 @@ use Rattle.std.proofs.lemmas.Bool.{lt-ltb}
 use Rattle.std.proofs.lemmas.List.{length-take-le, length-reverse}
 use Rattle.ante_wtree.specs.declared.instructions.ValueKind.{ValueKind}
 use Rattle.ante_wtree.specs.declared.instructions.ValueKind.TheVariants.{I32, I64}
+use Rattle.ante_wtree.specs.Types.{masked, all_fit}
 use Rattle.ante_wmeaning.specs.PlainInstructions.{popped}
-use Rattle.ante_wmeaning.specs.ValueTypes.{masked, all_fit}
 use Rattle.ante_wmeaning.specs.Execution.{arguments}
 
 pub arguments_length : (n : ℕ) (stack : List ℕ) → n ≤ length stack → length (arguments n stack) ≡ n

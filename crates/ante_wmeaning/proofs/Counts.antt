@@ -9,12 +9,12 @@ use Rattle.ante_wtree.specs.declared.instructions.ValueKind.{ValueKind}
 use Rattle.ante_wtree.specs.declared.instructions.ValueKind.TheVariants.{I32, I64}
 use Rattle.ante_wtree.specs.declared.instructions.PlainInstr.{PlainInstr}
 use Rattle.ante_wtree.specs.declared.instructions.PlainInstr.TheVariants as plain
-use Rattle.ante_wtree.specs.Accesses.{load_result, load_exponent, store_operand, store_exponent}
+use Rattle.ante_wtree.specs.Accesses.{load_result, load_width, load_exponent, extended, store_operand, store_width, store_exponent}
 use Rattle.ante_wvalid.specs.Typing.{Context, Operands, InstrType, Fixed, found, only_if, onto, Turns, Moves, type_of}
 use Rattle.ante_wmem.specs.Linear.{is_inside, bytes_at, written, little_endian, low_bytes, byte_count}
 use Rattle.ante_wmeaning.specs.declared.ends.TrapKind.{TrapKind}
 use Rattle.ante_wmeaning.specs.declared.ends.TrapKind.TheVariants as trap
-use Rattle.ante_wmeaning.specs.PlainInstructions.{Values, Effect, Next, Traps, NoRule, top, popped, low, load_width, store_width, extended, gives, answers, effect, with_stack}
+use Rattle.ante_wmeaning.specs.PlainInstructions.{Values, Effect, Next, Traps, NoRule, top, popped, low, gives, answers, effect, with_stack}
 
 -- the effect keeps the numbers of locals and globals, and leaves so many operands
 abbrev pub Counts : (locals globals count : ℕ) → Effect → Type 0

@@ -5,6 +5,7 @@ use Rattle.std.specs.Str.{bytes_eq}
 use Rattle.std.proofs.lemmas.Slice.Eq.{bytes_eq-Decides}
 use Rattle.std.proofs.lemmas.List.Sums.{passes_at_first}
 use Rattle.std.proofs.lemmas.Option.{slice_get-get_or}
+use Rattle.ante_wmem.specs.HostCalls.{HostMeaning}
 use Rattle.ante_wtree.specs.declared.instructions.ValueKind.{ValueKind}
 use Rattle.ante_wtree.specs.declared.instructions.ValueKind.TheVariants.{I32, I64}
 use Rattle.ante_wtree.specs.declared.modules.FuncType.{FuncType}
@@ -12,13 +13,13 @@ use Rattle.ante_wtree.specs.declared.modules.Import.{Import}
 use Rattle.ante_wtree.specs.declared.modules.ImportKind.TheVariants as import
 use Rattle.ante_wtree.specs.Intrinsics.{names, name_at, type_at}
 use Rattle.ante_wtree.specs.Trees.{Tree, Body}
+use Rattle.ante_wtree.specs.Replies.{AnswersTyped}
 use Rattle.ante_wvalid.specs.declared.kinds.InvalidKind.TheVariants as invalid
-use Rattle.ante_wtree.specs.Types.{kinds_of}
+use Rattle.ante_wtree.specs.Types.{kinds_of, result_of}
 use Rattle.ante_wvalid.specs.Modules.{HasHostType, IsValid}
-use Rattle.ante_wmeaning.specs.Configurations.{Given}
-use Rattle.ante_wmeaning.specs.ValueTypes.{result_of}
+use Rattle.ante_wmeaning.specs.Configurations.{Given, Program}
 use Rattle.ante_wmeaning.specs.Instantiation.{given, given_as, given_functions, host_place, own_functions, program_in}
-use Rattle.ante_wmeaning.specs.HostConditions.{HaveHostTypes}
+use Rattle.ante_wmeaning.specs.HostConditions.{HaveHostTypes, ImportsTyped}
 use Rattle.ante_wmeaning.proofs.Reached.{none_given}
 
 -- ---- types that can't differ are equal
@@ -113,3 +114,9 @@ given_types one types (i ∷ is) kinds bodies (suc f) kind number h v = λ no. v
 pub have_host_types : OneNumber → (m : Tree) → IsValid m → HaveHostTypes (program_in m)
 have_host_types one m valid = λ kind number g. type_stable (type_at number) kind.params (result_of kind.results)
     (given_types one m.types m.imports m.functions m.codes g.0 kind number g.1 (λ k i at no. valid (invalid.ImportType k) (i, at, no)))
+
+-- A host whose functions reply as their types say does so for the imports.
+pub imports_typed : {W R : Type 0} (allowed : W → ℕ → List ℕ → ℕ → Type 0) (host : HostMeaning W R) (program : Program) →
+    HaveHostTypes program → AnswersTyped allowed host → ImportsTyped allowed host program
+imports_typed allowed host program types answers = λ kind number args w memory left given fit may.
+    answers number kind.params (result_of kind.results) args w memory left (types kind number given) fit may

@@ -14,10 +14,11 @@ use Rattle.ante_wmeaning.specs.declared.ends.RunEnd.TheVariants as end
 use Rattle.ante_wmeaning.specs.PlainInstructions.{Effect, Next, Traps, NoRule, effect, low}
 use Rattle.ante_wmeaning.specs.Environment.{Environment, after_look, after_item, after_call}
 use Rattle.ante_wmeaning.specs.Configurations.{FunctionInstance, Own, Given, Missing, Program, State, Outcome, Normal, Branch, Returned, Ended, Lacks, InHost, Stuck, stack_of, on_stack, with_values}
-use Rattle.ante_wmeaning.specs.ValueTypes.{arity, masked, gives_none, result_of}
+use Rattle.ante_wmeaning.specs.Arities.{arity, gives_none}
 use Rattle.ante_wmeaning.specs.Execution.{keep, unwound, returned, only_if, back, taking, grown_by, entered, arguments, due, supplied, pay, seen, step, starts, and_then, of_block, of_loop, of_call, settled, of_effect, turns, chosen, jump_unless, target, pay_pages, grow_if, grow, element, acts, does, of_reply, host_supplied, call_host, of_function, no_frame, call_own, call, invoked}
 use Rattle.ante_wmeaning.specs.Instantiation.{segments_fit, program_in, apply_in}
 use Rattle.ante_wtree.specs.Limits.{most_frames}
+use Rattle.ante_wtree.specs.Types.{masked, result_of}
 use Rattle.ante_wmeaning.specs.Invocation.{with_arguments, outset_of, where_fit, start_runs, apply_runs, both_run, run_of}
 use Rattle.ante_wmeaning.proofs.Outcomes.{itself, through_then, through_block, through_loop, through_call, through_settled}
 

@@ -17,9 +17,8 @@ use Rattle.ante_wtree.specs.Intrinsics.{names, name_at}
 use Rattle.ante_wtree.specs.Trees.{Tree, Body}
 use Rattle.ante_wvalid.specs.declared.kinds.ModuleRule.TheVariants as rule
 use Rattle.ante_wvalid.specs.declared.kinds.InvalidKind.TheVariants as invalid
-use Rattle.ante_wtree.specs.Types.{kinds_of}
+use Rattle.ante_wtree.specs.Types.{kinds_of, result_of}
 use Rattle.ante_wvalid.specs.Typing.{Typed, type_numbered}
-use Rattle.ante_wtree.specs.Types.{result_of as first_of}
 use Rattle.ante_wvalid.specs.Modules.{IsValid, IsFunctionTyped, imported, function_of, function_types, context_of}
 use Rattle.ante_wmeaning.specs.Configurations.{FunctionInstance, Own, Given}
 use Rattle.ante_wmeaning.specs.Instantiation.{host_place, given, given_as, given_functions, own, own_functions, offset_of, empty_table, with_element, program_in}
@@ -143,7 +142,7 @@ module _ (m : Tree) (valid : IsValid m) where
           let y = all f (slice_get_within m.functions f number q) in
           let same : y.0 ≡ number = some_is y.0 number (sym y.3 ∙ q) in
           let type' : y.1 ≡ t = some_is y.1 t (sym y.4 ∙ ap (slice_get m.types) same ∙ g) in
-          let typed = subst (λ u. Typed (context_of m u.params y.2.locals (first_of u.results)) y.2.body [] (kinds_of (first_of u.results))) type' y.6 in
+          let typed = subst (λ u. Typed (context_of m u.params y.2.locals (result_of u.results)) y.2.body [] (kinds_of (result_of u.results))) type' y.6 in
           (Own t (length y.2.locals) y.2.body, own_at m.functions m.codes f number t y.2 q g y.5, (refl, y.2.locals, refl, typed))
 
   import_there : (i : Import) → Sure i → (numbers : List ℕ) (functions : List FunctionInstance) → HasFunctions numbers functions → (k : ImportKind) → i.kind ≡ k →

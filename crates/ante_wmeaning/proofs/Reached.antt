@@ -16,11 +16,10 @@ use Rattle.ante_wtree.specs.Intrinsics.{types as host_types, type_at}
 use Rattle.ante_wtree.specs.Trees.{Tree, Body}
 use Rattle.ante_wvalid.specs.declared.kinds.ModuleRule.TheVariants as rule
 use Rattle.ante_wvalid.specs.declared.kinds.InvalidKind.TheVariants as invalid
-use Rattle.ante_wtree.specs.Types.{kinds_of}
+use Rattle.ante_wtree.specs.Types.{kinds_of, same_kinds}
 use Rattle.ante_wvalid.specs.Typing.{type_numbered}
 use Rattle.ante_wvalid.specs.Modules.{function_of, imported, function_types, HasType, HostType, HasHostType, IsApply, Twice, IsValid}
 use Rattle.ante_wmeaning.specs.Configurations.{Given}
-use Rattle.ante_wmeaning.specs.ValueTypes.{same_kinds}
 use Rattle.ante_wmeaning.specs.HostConditions.{IsHosts}
 use Rattle.ante_wmeaning.specs.Instantiation.{given_as, given_functions, own, own_functions, program_in, is_function, named_apply, apply_in}
 

@@ -13,11 +13,10 @@ use Rattle.ante_wmeaning.specs.Environment.{Environment, after_item}
 use Rattle.ante_wmeaning.specs.Configurations.{State, Outcome, Normal, Branch, Returned, Ended, Lacks, InHost, Stuck}
 use Rattle.ante_wmeaning.specs.Execution.{supplied, and_then}
 use Rattle.ante_wmeaning.specs.RunEnds.{NotStuck}
-use Rattle.ante_wmeaning.specs.HostConditions.{MayCall, MayBelow, IsHosts}
+use Rattle.ante_wmeaning.specs.HostConditions.{MayCall, MayBelow, IsHosts, ImportsTyped}
 use Rattle.ante_wmeaning.specs.Instantiation.{constant, segments_fit, program_in, apply_in}
 use Rattle.ante_wtree.specs.Limits.{most_frames}
 use Rattle.ante_wmeaning.specs.Invocation.{with_arguments, outset_of, where_fit, called_with, start_runs, apply_runs, both_run, run_of}
-use Rattle.ante_wmeaning.specs.HostConditions.{AnswersTyped}
 use Rattle.ante_wmeaning.specs.TypedPrograms.{IsTyped}
 use Rattle.ante_wmeaning.proofs.Programs.{typed_unless}
 use Rattle.ante_wmeaning.proofs.Falls.{HostFalls}
@@ -41,7 +40,7 @@ state_in s o = s
 same_unless : (a b : ℕ) → ((a ≡ b → ⊥) → ⊥) → a ≡ b
 same_unless a b h = ⊎_elim (λ lt. absurd (h (λ e. omega (arith, lt, e)))) (λ ge. ⊎_elim (λ lt. absurd (h (λ e. omega (arith, lt, e)))) (λ le. omega (arith, ge, le)) (cases_lt b a)) (cases_lt a b)
 
-module _ {W R : Type 0} (host : HostMeaning W R) (allowed : W → ℕ → List ℕ → ℕ → Type 0) (m : Tree) (valid : IsValid m) (answers : AnswersTyped allowed host (program_in m))
+module _ {W R : Type 0} (host : HostMeaning W R) (allowed : W → ℕ → List ℕ → ℕ → Type 0) (m : Tree) (valid : IsValid m) (answers : ImportsTyped allowed host (program_in m))
     (keeps : (w : W) (number : ℕ) (args : List ℕ) (memory : LinearMemory) (left : ℕ) → allowed w number args left → Keeps allowed w left (host w number args memory left).reply (host w number args memory left).left)
     (falls : HostFalls host) where
   -- not stuck, and where it goes on, as many globals

@@ -11,20 +11,18 @@ use Rattle.ante_wtree.specs.declared.instructions.ValueKind.{ValueKind}
 use Rattle.ante_wtree.specs.declared.modules.FuncType.{FuncType}
 use Rattle.ante_wtree.specs.Expressions.{Expression, Over, Plain, Block, Loop, If, Br, BrIf, BrTable, Return, Call, CallIndirect, MemoryGrow}
 use Rattle.ante_wtree.specs.Trees.{Tree}
-use Rattle.ante_wtree.specs.Types.{kinds_of}
+use Rattle.ante_wtree.specs.Types.{kinds_of, result_of, masked, all_fit, same_kind, same_kinds}
+use Rattle.ante_wtree.specs.Replies.{IsReplyOf}
 use Rattle.ante_wvalid.specs.Typing.{Context, Operands, Typed, inside, type_numbered}
-use Rattle.ante_wtree.specs.Types.{result_of as first_of}
 use Rattle.ante_wvalid.specs.Modules.{function_types, context_of}
 use Rattle.ante_wmeaning.specs.PlainInstructions.{Effect, Next, Traps, NoRule, effect, low}
 use Rattle.ante_wmeaning.specs.Environment.{after_look, after_item}
 use Rattle.ante_wmeaning.specs.Configurations.{FunctionInstance, Own, Given, Missing, Program, State, Outcome, Normal, Branch, Returned, Ended, Lacks, InHost, Stuck, stack_of, on_stack, with_values}
-use Rattle.ante_wmeaning.specs.ValueTypes.{arity, result_of, masked, all_fit, gives_none, same_kind, same_kinds}
+use Rattle.ante_wmeaning.specs.Arities.{arity, gives_none}
 use Rattle.ante_wmeaning.specs.Execution.{keep, unwound, returned, grown_by, entered, arguments, due, supplied, pay, seen, step, starts, only_if, and_then, of_block, of_loop, back, of_call, settled, of_effect, taking, turns, chosen, jump_unless, target, pay_pages, grow_if, grow, is_of, checked, of_place, of_type, element, acts, does, of_reply, host_supplied, call_host, of_function, no_frame, call_own, call, invoked}
 use Rattle.ante_wmeaning.specs.RunEnds.{NotStuck}
-use Rattle.ante_wmeaning.specs.HostConditions.{MayCall, MayBelow, IsHosts}
-use Rattle.ante_wmeaning.specs.HostConditions.{Replies}
+use Rattle.ante_wmeaning.specs.HostConditions.{MayCall, MayBelow, IsHosts, Replies, ImportsTyped}
 use Rattle.ante_wmeaning.specs.TypedPrograms.{IsOf, HasKind, IsTyped}
-use Rattle.ante_wmeaning.specs.HostConditions.{IsReplyOf, AnswersTyped}
 use Rattle.ante_wmeaning.proofs.Counts.{Counts, counts, onto_length}
 use Rattle.ante_wmeaning.proofs.Arguments.{arguments_length, mask_fits}
 use Rattle.ante_wmeaning.proofs.Outcomes.{Keeps as Handed, through_then, through_block, through_loop, through_call, through_settled}
@@ -35,10 +33,6 @@ use Rattle.ante_wmeaning.proofs.Falls.{Lowers, AllLower, HostFalls, does_lowers,
 pub kinds_length : (kind : Option ValueKind) → length (kinds_of kind) ≡ arity kind
 kinds_length None = refl
 kinds_length (Some k) = refl
-
-first_is : (kinds : List ValueKind) → first_of kinds ≡ result_of kinds
-first_is [] = refl
-first_is (k ∷ ks) = refl
 
 few_results : (kinds : List ValueKind) → length kinds ≤ 1 → arity (result_of kinds) ≡ length kinds
 few_results [] le = refl
@@ -423,7 +417,7 @@ module _ {W R : Type 0} (allowed : W → ℕ → List ℕ → ℕ → Type 0) (m
 
 -- ---- functions
 
-module _ {W R : Type 0} (host : HostMeaning W R) (allowed : W → ℕ → List ℕ → ℕ → Type 0) (m : Tree) (program : Program) (typed : IsTyped m program) (answers : AnswersTyped allowed host program)
+module _ {W R : Type 0} (host : HostMeaning W R) (allowed : W → ℕ → List ℕ → ℕ → Type 0) (m : Tree) (program : Program) (typed : IsTyped m program) (answers : ImportsTyped allowed host program)
     (keeps : (w : W) (number : ℕ) (args : List ℕ) (memory : LinearMemory) (left : ℕ) → allowed w number args left → Keeps allowed w left (host w number args memory left).reply (host w number args memory left).left)
     (falls : HostFalls host) where
   abbrev Called : (locals globals count : ℕ) → Outcome W R → Type 0
@@ -499,18 +493,17 @@ module _ {W R : Type 0} (host : HostMeaning W R) (allowed : W → ℕ → List �
         wanted n le = omega (arith, le)
 
   own_fine : (calls : ℕ → State W → Outcome W R) → ((f : ℕ) → AllLower (calls f)) → CallsFine allowed m program typed calls → (t : FuncType) (locals : ℕ) (body : Expression) (s : State W) (below : ℕ) → length t.results ≤ 1 →
-      (kinds : List ValueKind) → length kinds ≡ locals → Typed (context_of m t.params kinds (first_of t.results)) body [] (kinds_of (first_of t.results)) →
+      (kinds : List ValueKind) → length kinds ≡ locals → Typed (context_of m t.params kinds (result_of t.results)) body [] (kinds_of (result_of t.results)) →
       length s.values.globals ≡ length m.globals → MayBelow allowed program s.world s.left → length (stack_of s) ≡ below + length t.params →
       Called (length s.values.locals) (length m.globals) (below + length t.results) (call_own (does program calls) t locals body s)
   own_fine calls lower fine t locals body s below few kinds n ty g may e =
-      let r = first_of t.results in
+      let r = result_of t.results in
       let operands = drop (length t.params) (stack_of s) in
       let c = context_of m t.params kinds r in
       let same : length (entered t locals s).values.locals ≡ length c.locals = omega (arith, n, length-append (arguments (length t.params) (stack_of s)) (replicate locals 0), length-append t.params kinds, copies_length locals 0, arguments_length (length t.params) (stack_of s) (omega (arith, e))) in
-      let count : below + length t.results ≡ length operands + arity r = omega (arith, e, length-drop (length t.params) (stack_of s), ap arity (first_is t.results), few_results t.results few) in
-      subst (λ x. Called (length s.values.locals) (length m.globals) (below + length t.results) (of_call x s.values.locals operands (does program calls body (entered t locals s)))) (first_is t.results)
-      (of_call_fine r s.values.locals operands (length c.locals) (length m.globals) (below + length t.results) count (does program calls body (entered t locals s))
-      (does_fine allowed m program typed calls lower fine body (acts_fine allowed m program typed calls lower fine body) c (0 ∷ []) 0 [] (kinds_of r) (refl, refl, refl) (le_self 0, tt) ty (entered t locals s) (same, g, may) refl))
+      let count : below + length t.results ≡ length operands + arity r = omega (arith, e, length-drop (length t.params) (stack_of s), few_results t.results few) in
+      of_call_fine r s.values.locals operands (length c.locals) (length m.globals) (below + length t.results) count (does program calls body (entered t locals s))
+      (does_fine allowed m program typed calls lower fine body (acts_fine allowed m program typed calls lower fine body) c (0 ∷ []) 0 [] (kinds_of r) (refl, refl, refl) (le_self 0, tt) ty (entered t locals s) (same, g, may) refl)
 
   type_results : (f : ℕ) (t : FuncType) → HasKind m f t → length t.results ≤ 1
   type_results f t h = by_number (slice_get (function_types m) f) h
@@ -521,7 +514,7 @@ module _ {W R : Type 0} (host : HostMeaning W R) (allowed : W → ℕ → List �
 
   abbrev Owns : (FuncType → ℕ → Expression → State W → Outcome W R) → Type 0
   Owns own = (t : FuncType) (locals : ℕ) (body : Expression) (s : State W) (below : ℕ) → length t.results ≤ 1 →
-      (kinds : List ValueKind) → length kinds ≡ locals → Typed (context_of m t.params kinds (first_of t.results)) body [] (kinds_of (first_of t.results)) →
+      (kinds : List ValueKind) → length kinds ≡ locals → Typed (context_of m t.params kinds (result_of t.results)) body [] (kinds_of (result_of t.results)) →
       length s.values.globals ≡ length m.globals → MayBelow allowed program s.world s.left → length (stack_of s) ≡ below + length t.params →
       Called (length s.values.locals) (length m.globals) (below + length t.results) (own t locals body s)
 

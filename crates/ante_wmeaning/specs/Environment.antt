@@ -82,6 +82,10 @@ Wanting o = (o.item_lacks o.items ≡ true) × (o.call_lacks o.calls ≡ true)
 abbrev pub ByEvents : {S : Type 0} → (may : S → Option ℕ → S → Type 0) → (old new : S) → (List Event → Type 0) → Type 0
 ByEvents may old new holds = (events : List Event) × Looks may old (looks_of events) new × holds events
 
+-- This holds of each environment that begins with what was asked while the stop came from old to new, and of what it is afterwards.
+abbrev pub Throughout : {S : Type 0} → (may : S → Option ℕ → S → Type 0) → (old new : S) → (Environment → Environment → Type 0) → Type 0
+Throughout may old new holds = ByEvents may old new (λ events. (before : Environment) → Begins before events → holds before (past before events))
+
 -- the count of looks, where the stop tells it, rose by those that were made between these
 abbrev pub CountsLooks : (old new : Option ℕ) → (before after : Environment) → Type 0
 CountsLooks old new before after = Rises (after.looks - before.looks) old new

@@ -1,8 +1,9 @@
 -- The meaning of a body: the execution chapter of WebAssembly Core 1.0 (section 4.4) as recursion on the tree, with the
 -- steps that are paid, the looks at the stop and the frames that there may be. W is the host, R its refusals. Where the
 -- chapter says "due to validation" and it isn't so, the run is stuck; one of a valid module never is.
-use Rattle.std.specs.Prelude.{ℕ, zero, suc, ◌+◌, ◌-◌, ◌/◌, Bool, true, false, not, ◌&&◌, ◌==◌, nat_lt, nat_le, List, [], ◌∷◌, ◌++◌, length, take, drop, reverse, replicate, slice_get, slice_index_or, Option, None, Some, Result, Ok, Err}
-use Rattle.ante_wmem.specs.Linear.{may_grow, growth_answer, grown}
+use Rattle.std.specs.Prelude.{ℕ, zero, suc, ◌+◌, ◌-◌, ◌/◌, Bool, true, false, not, ◌&&◌, ◌==◌, nat_lt, nat_le, Option, None, Some, Result, Ok, Err}
+use Rattle.std.specs.Prelude.{List, [], ◌∷◌, ◌++◌, length, take, drop, reverse, replicate, slice_get, slice_index_or}
+use Rattle.ante_wmem.specs.Linear.{LinearMemory, may_grow, growth_answer, grown}
 use Rattle.ante_wmem.specs.HostCalls.{Reply, value, nothing, exit, refused, step_limit, HostMeaning}
 use Rattle.ante_wmem.specs.declared.host.HostAnswer.TheVariants as answer
 use Rattle.ante_wtree.specs.declared.instructions.ValueKind.{ValueKind}
@@ -13,9 +14,11 @@ use Rattle.ante_wmeaning.specs.declared.ends.TrapKind.TheVariants as trap
 use Rattle.ante_wmeaning.specs.declared.ends.RunEnd.TheVariants as end
 use Rattle.ante_wmeaning.specs.PlainInstructions.{Effect, Next, Traps, NoRule, effect, low}
 use Rattle.ante_wtree.specs.Limits.{round_steps}
+use Rattle.ante_wtree.specs.Types.{result_of, same_kinds, masked}
 use Rattle.ante_wmeaning.specs.Environment.{after_look, after_item, after_call}
-use Rattle.ante_wmeaning.specs.Configurations.{FunctionInstance, Own, Given, Missing, Program, State, Outcome, Normal, Branch, Returned, Ended, Lacks, InHost, Stuck, with_values, stack_of, on_stack}
-use Rattle.ante_wmeaning.specs.ValueTypes.{arity, result_of, same_kinds, masked, gives_none}
+use Rattle.ante_wmeaning.specs.Configurations.{FunctionInstance, Own, Given, Missing, Program, State, with_values, stack_of, on_stack}
+use Rattle.ante_wmeaning.specs.Configurations.{Outcome, Normal, Branch, Returned, Ended, Lacks, InHost, Stuck}
+use Rattle.ante_wmeaning.specs.Arities.{arity, gives_none}
 
 -- the lowest operands, as many as there were at a block's begin
 abbrev pub keep : (height : ℕ) → List ℕ → List ℕ
@@ -244,17 +247,24 @@ module _ {W R : Type 0} (program : Program) (calls : ℕ → State W → Outcome
 
 -- ---- calls
 
+module _ {W : Type 0} where
+  -- a host call had the memory that it wanted
+  abbrev pub call_supplied : State W → State W
+  call_supplied s = record s { environment = after_call s.environment }
+
+  -- what the host leaves, with these operands
+  abbrev pub after_host : (stack : List ℕ) → W → LinearMemory → (left : ℕ) → State W → State W
+  after_host stack w m left s =
+      record s { world = w; left = left; environment = after_call s.environment; values = record s.values { stack = stack; memory = m } }
+
 module _ {W R : Type 0} where
   -- A function with a result is answered a value, and one without is answered none.
   abbrev pub of_reply : (results : List ValueKind) → (number : ℕ) → (arguments : List ℕ) → (below : List ℕ) → Reply W R → (left : ℕ) → State W → Outcome W R
-  of_reply results number arguments below (value n w m) left s =
-      only_if (not (gives_none results)) (Normal (record s { world = w; left = left; environment = after_call s.environment; values = record s.values { stack = n ∷ below; memory = m } }))
-  of_reply results number arguments below (nothing w m) left s =
-      only_if (gives_none results) (Normal (record s { world = w; left = left; environment = after_call s.environment; values = record s.values { stack = below; memory = m } }))
-  of_reply results number arguments below (exit w m) left s =
-      Ended end.Exit (record s { world = w; left = left; environment = after_call s.environment; values = record s.values { stack = below; memory = m } })
-  of_reply results number arguments below (refused r) left s = InHost number arguments (answer.Refused r) left (record s { environment = after_call s.environment })
-  of_reply results number arguments below step_limit left s = InHost number arguments answer.StepLimit left (record s { environment = after_call s.environment })
+  of_reply results number arguments below (value n w m) left s = only_if (not (gives_none results)) (Normal (after_host (n ∷ below) w m left s))
+  of_reply results number arguments below (nothing w m) left s = only_if (gives_none results) (Normal (after_host below w m left s))
+  of_reply results number arguments below (exit w m) left s = Ended end.Exit (after_host below w m left s)
+  of_reply results number arguments below (refused r) left s = InHost number arguments (answer.Refused r) left (call_supplied s)
+  of_reply results number arguments below step_limit left s = InHost number arguments answer.StepLimit left (call_supplied s)
 
   abbrev pub host_supplied : Bool → (number : ℕ) → (arguments : List ℕ) → Outcome W R → State W → Outcome W R
   host_supplied true number arguments go s = InHost number arguments answer.OutOfMemory s.left s
@@ -265,7 +275,8 @@ module _ {W R : Type 0} where
       let count = length kind.params in
       let args = masked kind.params (arguments count (stack_of s)) in
       let outcome = host s.world number args s.values.memory s.left in
-      host_supplied (s.environment.call_lacks s.environment.calls) number args (of_reply kind.results number args (drop count (stack_of s)) outcome.reply outcome.left s) s
+      host_supplied (s.environment.call_lacks s.environment.calls) number args
+      (of_reply kind.results number args (drop count (stack_of s)) outcome.reply outcome.left s) s
 
   abbrev pub of_function : HostMeaning W R → (own : FuncType → ℕ → Expression → State W → Outcome W R) → Option FunctionInstance → State W → Outcome W R
   of_function host own (Some (Own kind locals body)) s = only_if (nat_le (length kind.params) (length (stack_of s))) (own kind locals body s)

@@ -5,8 +5,10 @@ use Rattle.ante_wmem.specs.HostCalls.{Reply, value, nothing, exit, refused, step
 use Rattle.ante_wtree.specs.declared.instructions.ValueKind.{ValueKind}
 use Rattle.ante_wtree.specs.declared.modules.FuncType.{FuncType}
 use Rattle.ante_wtree.specs.Intrinsics.{type_at}
+use Rattle.ante_wtree.specs.Types.{result_of, all_fit}
+use Rattle.ante_wtree.specs.Replies.{IsReplyOf}
 use Rattle.ante_wmeaning.specs.Configurations.{Given, Program}
-use Rattle.ante_wmeaning.specs.ValueTypes.{result_of, fits, all_fit, gives_none}
+use Rattle.ante_wmeaning.specs.Arities.{gives_none}
 
 -- the module has the host's function of this number, of this type
 abbrev pub IsGiven : Program → FuncType → ℕ → Type 0
@@ -20,7 +22,8 @@ HaveHostTypes program = (kind : FuncType) (number : ℕ) → IsGiven program kin
 
 -- the host allows each import with all arguments of its type
 abbrev pub MayCall : {W : Type 0} → (allowed : W → ℕ → List ℕ → ℕ → Type 0) → Program → W → (left : ℕ) → Type 0
-MayCall allowed program w left = (kind : FuncType) (number : ℕ) (args : List ℕ) → IsGiven program kind number → all_fit kind.params args ≡ true → allowed w number args left
+MayCall allowed program w left =
+    (kind : FuncType) (number : ℕ) (args : List ℕ) → IsGiven program kind number → all_fit kind.params args ≡ true → allowed w number args left
 
 -- at every number of steps below this one
 abbrev pub MayBelow : {W : Type 0} → (allowed : W → ℕ → List ℕ → ℕ → Type 0) → Program → W → (left : ℕ) → Type 0
@@ -40,18 +43,9 @@ Replies results (exit w m) = Unit {0}
 Replies results (refused r) = Unit {0}
 Replies results step_limit = Unit {0}
 
--- a reply that a function of this result may give
-abbrev pub IsReplyOf : {W R : Type 0} → Option ValueKind → Reply W R → Type 0
-IsReplyOf None (value n w m) = ⊥
-IsReplyOf (Some kind) (value n w m) = fits kind n ≡ true
-IsReplyOf None (nothing w m) = Unit {0}
-IsReplyOf (Some kind) (nothing w m) = ⊥
-IsReplyOf result (exit w m) = Unit {0}
-IsReplyOf result (refused r) = Unit {0}
-IsReplyOf result step_limit = Unit {0}
-
--- Where an import may be called with arguments of its type, the host replies as a function of that type does.
-abbrev pub AnswersTyped : {W R : Type 0} → (allowed : W → ℕ → List ℕ → ℕ → Type 0) → HostMeaning W R → Program → Type 0
-AnswersTyped {W} allowed host program = (kind : FuncType) (number : ℕ) (args : List ℕ) (w : W) (memory : LinearMemory) (left : ℕ) →
+-- Where an import may be called with arguments of its type, the host replies as a function of that type does. A host whose
+-- functions all do, meets this for each valid module.
+abbrev pub ImportsTyped : {W R : Type 0} → (allowed : W → ℕ → List ℕ → ℕ → Type 0) → HostMeaning W R → Program → Type 0
+ImportsTyped {W} allowed host program = (kind : FuncType) (number : ℕ) (args : List ℕ) (w : W) (memory : LinearMemory) (left : ℕ) →
     IsGiven program kind number → all_fit kind.params args ≡ true → allowed w number args left →
     IsReplyOf (result_of kind.results) (host w number args memory left).reply

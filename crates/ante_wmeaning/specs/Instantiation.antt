@@ -1,6 +1,7 @@
 -- An instance of a module before it runs: section 4.5.4 of WebAssembly Core 1.0. A function that no valid module has is
 -- `Missing`, and a constant that none has is 0.
-use Rattle.std.specs.Prelude.{ℕ, ◌+◌, ◌*◌, Bool, ◌&&◌, nat_le, min, List, [], ◌∷◌, ◌++◌, length, take, drop, replicate, map, codes, slice_get, position, find, fold, Option, None, Some, true, false}
+use Rattle.std.specs.Prelude.{ℕ, ◌+◌, ◌*◌, Bool, true, false, ◌&&◌, nat_le, min, Option, None, Some}
+use Rattle.std.specs.Prelude.{List, [], ◌∷◌, ◌++◌, length, take, drop, replicate, map, codes, slice_get, position, find, fold}
 use Rattle.std.specs.List.{list_all, zip}
 use Rattle.std.specs.Str.{bytes_eq}
 use Rattle.std.specs.Option.{option_map}

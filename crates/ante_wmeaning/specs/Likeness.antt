@@ -10,6 +10,7 @@ use Rattle.ante_wmeaning.specs.declared.ends.RunEnd.{RunEnd}
 use Rattle.ante_wmeaning.specs.declared.ends.RunEnd.TheVariants as end
 use Rattle.ante_wmeaning.specs.Environment.{Environment, calm_from}
 use Rattle.ante_wmeaning.specs.Configurations.{State, Outcome, Normal, Branch, Returned, Ended, Lacks, InHost, Stuck}
+use Rattle.ante_wmeaning.specs.RunEnds.{Remainder}
 use Rattle.ante_wmeaning.specs.Invocation.{run_of}
 
 -- ---- hosts that reply alike
@@ -94,7 +95,7 @@ RunUndisturbed {V} {W} Like one other = (m : Tree) (args : List ℕ) (v : V) (w 
 
 -- ---- what stands above a run
 
-module _ {V W R : Type 0} (Like : V → W → Type 0) (stands : V → ℕ → List ℕ → LinearMemory → ℕ → HostAnswer R → V → Type 0) where
+module _ {V W R : Type 0} (Like : V → W → Type 0) (stands : Remainder V R) where
   -- what a refused call leaves of a host that was like this one
   abbrev pub LeftOf : W → ℕ → List ℕ → LinearMemory → ℕ → HostAnswer R → V → Type 0
   LeftOf w number args memory left a v = (u : V) × Like u w × stands u number args memory left a v
@@ -119,9 +120,14 @@ module _ {V W R : Type 0} (Like : V → W → Type 0) (stands : V → ℕ → Li
   abbrev pub EndsLikeSo : RunEnd R → V → (left : ℕ) → Outcome W R → Type 0
   EndsLikeSo e v left o = (after : Environment) × EndsLike e v left after o
 
-  -- a host that is like one of the other's, or what a call that was refused memory left of one that was
+  -- what a call that was refused memory left of a host that was like one of the other's
+  abbrev pub LeftUnsupplied : V → Type 0
+  LeftUnsupplied v =
+      (w : W) × (number : ℕ) × (args : List ℕ) × (memory : LinearMemory) × (left : ℕ) × LeftOf w number args memory left answer.OutOfMemory v
+
+  -- a host that is like one of the other's, or what is left so
   abbrev pub Remains : V → Type 0
-  Remains v = HasLike Like v ⊎ ((w : W) × (number : ℕ) × (args : List ℕ) × (memory : LinearMemory) × (left : ℕ) × LeftOf w number args memory left answer.OutOfMemory v)
+  Remains v = HasLike Like v ⊎ LeftUnsupplied v
 
   -- What a run answers, from the outcome of the undisturbed run over the other host: its end, the host that is like the
   -- other's, and the steps left. After a cut and after want of memory, the host is still like one of the other's.

@@ -1,18 +1,16 @@
 -- What the plain instructions do: sections 4.4.1 to 4.4.4 of WebAssembly Core 1.0.
-use Rattle.std.specs.Prelude.{ℕ, ◌+◌, ◌%◌, ◌^◌, ◌&&◌, ◌==◌, nat_lt, nat_le, Bool, true, if◌then◌else◌, List, length, [], ◌∷◌, slice_index, slice_set, Result, Ok, Err}
+use Rattle.std.specs.Prelude.{ℕ, ◌+◌, ◌%◌, ◌^◌, ◌&&◌, ◌==◌, nat_lt, nat_le, Bool, true, if◌then◌else◌}
+use Rattle.std.specs.Prelude.{List, length, [], ◌∷◌, slice_index, slice_set, Result, Ok, Err}
 use Rattle.ante_wnum.specs.Numerics.{signed, unsigned}
 use Rattle.ante_wnum.specs.NumericInstructions.{unary_of, binary_of, compare_of}
 use Rattle.ante_wnum.specs.declared.NumTrap.{NumTrap}
 use Rattle.ante_wnum.specs.declared.NumTrap.TheVariants as num
 use Rattle.ante_wmem.specs.Linear.{LinearMemory, page_count, is_inside, bytes_at, written, little_endian, low_bytes, byte_count}
-use Rattle.ante_wmem.specs.declared.Width.{Width}
-use Rattle.ante_wmem.specs.declared.Width.TheVariants.{One, Two, Four, Eight}
 use Rattle.ante_wtree.specs.declared.instructions.LoadKind.{LoadKind}
-use Rattle.ante_wtree.specs.declared.instructions.LoadKind.TheVariants as load
 use Rattle.ante_wtree.specs.declared.instructions.StoreKind.{StoreKind}
-use Rattle.ante_wtree.specs.declared.instructions.StoreKind.TheVariants as store
 use Rattle.ante_wtree.specs.declared.instructions.PlainInstr.{PlainInstr}
 use Rattle.ante_wtree.specs.declared.instructions.PlainInstr.TheVariants as plain
+use Rattle.ante_wtree.specs.Accesses.{load_width, store_width, extended}
 use Rattle.ante_wmeaning.specs.declared.ends.TrapKind.{TrapKind}
 use Rattle.ante_wmeaning.specs.declared.ends.TrapKind.TheVariants as trap
 
@@ -62,38 +60,6 @@ answers v below (Ok answer) = gives v below answer
 answers v below (Err kind) = Traps (trap_of kind)
 
 -- ---- loads and stores
-
-abbrev pub load_width : LoadKind → Width
-load_width load.I32 = Four
-load_width load.I64 = Eight
-load_width load.I32S8 = One
-load_width load.I32U8 = One
-load_width load.I32S16 = Two
-load_width load.I32U16 = Two
-load_width load.I64S8 = One
-load_width load.I64U8 = One
-load_width load.I64S16 = Two
-load_width load.I64U16 = Two
-load_width load.I64S32 = Four
-load_width load.I64U32 = Four
-
--- the loaded bits at the width of the result: as they are, or with the sign extended
-abbrev pub extended : LoadKind → ℕ → ℕ
-extended load.I32S8 n = unsigned 32 (signed 8 n)
-extended load.I32S16 n = unsigned 32 (signed 16 n)
-extended load.I64S8 n = unsigned 64 (signed 8 n)
-extended load.I64S16 n = unsigned 64 (signed 16 n)
-extended load.I64S32 n = unsigned 64 (signed 32 n)
-extended kind n = n
-
-abbrev pub store_width : StoreKind → Width
-store_width store.I32 = Four
-store_width store.I64 = Eight
-store_width store.I32As8 = One
-store_width store.I32As16 = Two
-store_width store.I64As8 = One
-store_width store.I64As16 = Two
-store_width store.I64As32 = Four
 
 abbrev pub loaded : LoadKind → (offset : ℕ) → (address : ℕ) → (below : List ℕ) → Values → Effect
 loaded kind offset address below v =

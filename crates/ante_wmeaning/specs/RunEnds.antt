@@ -9,7 +9,11 @@ use Rattle.ante_wmeaning.specs.declared.ends.RunEnd.TheVariants as end
 use Rattle.ante_wmeaning.specs.Environment.{Environment, Calm, undisturbed, calm_from, Wanting}
 use Rattle.ante_wmeaning.specs.Configurations.{State, Outcome, Normal, Branch, Returned, Ended, Lacks, InHost, Stuck}
 
-module _ {W R : Type 0} (stands : W → ℕ → List ℕ → LinearMemory → ℕ → HostAnswer R → W → Type 0) where
+-- what a call with these arguments, memory and steps left leaves of its host, where it is answered so
+abbrev pub Remainder : Type 0 → Type 0 → Type 1
+Remainder W R = W → (number : ℕ) → (arguments : List ℕ) → LinearMemory → (left : ℕ) → HostAnswer R → W → Type 0
+
+module _ {W R : Type 0} (stands : Remainder W R) where
   -- the outcome is this end, with this host and these steps left
   abbrev pub Ends : RunEnd R → W → (left : ℕ) → Environment → Outcome W R → Type 0
   Ends e w left environment (Normal s) = (e ≡ end.Done) × (s.world ≡ w) × (s.left ≡ left) × (s.environment ≡ environment)
@@ -62,13 +66,12 @@ abbrev pub Stops : {W R : Type 0} → RunEnd R → W → ℕ → Environment →
 Stops {W} {R} e w left environment o = (s : State W) × (o ≡ Ended e s) × (s.world ≡ w) × (s.left ≡ left) × (s.environment ≡ environment)
 
 -- what a run answers, from the outcome that it has
-abbrev pub RunAnswers : {W R : Type 0} → (stands : W → ℕ → List ℕ → LinearMemory → ℕ → HostAnswer R → W → Type 0) →
-    Outcome W R → Result (RunEnd R) AllocError → W → (left : ℕ) → Environment → Type 0
+abbrev pub RunAnswers : {W R : Type 0} → (stands : Remainder W R) → Outcome W R → Result (RunEnd R) AllocError → W → (left : ℕ) → Environment → Type 0
 RunAnswers stands o (Ok e) w left environment = Ends stands e w left environment o
 RunAnswers stands o (Err e) w left environment = Wanting environment → Lacking stands w left environment o
 
 -- the outcome is this end, with this host and these steps left, in an environment of which this holds
-abbrev pub EndsWith : {W R : Type 0} → (stands : W → ℕ → List ℕ → LinearMemory → ℕ → HostAnswer R → W → Type 0) → RunEnd R → W → (left : ℕ) → (Environment → Type 0) → Outcome W R → Type 0
+abbrev pub EndsWith : {W R : Type 0} → (stands : Remainder W R) → RunEnd R → W → (left : ℕ) → (Environment → Type 0) → Outcome W R → Type 0
 EndsWith stands e w left holds o = (after : Environment) × Ends stands e w left after o × holds after
 
 -- no look asked the run to stop
@@ -76,12 +79,12 @@ abbrev pub Uncut : {R : Type 0} → Result (RunEnd R) AllocError → Type 0
 Uncut result = (at : ℕ) → result ≡ Ok (end.Cut at) → ⊥
 
 -- what a run answers, where what was asked of its environment is left out
-abbrev pub AnswersIn : {W R : Type 0} → (stands : W → ℕ → List ℕ → LinearMemory → ℕ → HostAnswer R → W → Type 0) →
-    Outcome W R → Result (RunEnd R) AllocError → W → (left : ℕ) → Environment → Type 0
+abbrev pub AnswersIn : {W R : Type 0} → (stands : Remainder W R) → Outcome W R → Result (RunEnd R) AllocError → W → (left : ℕ) → Environment → Type 0
 AnswersIn stands o (Ok e) w left environment = Ends stands e w left environment o
 AnswersIn stands o (Err e) w left environment = Lacking stands w left environment o
 
 -- In some environment the outcome is this. It began as the undisturbed one does, and only what ended the run disturbed it.
-abbrev pub Comes : {W R : Type 0} → (stands : W → ℕ → List ℕ → LinearMemory → ℕ → HostAnswer R → W → Type 0) →
+abbrev pub Comes : {W R : Type 0} → (stands : Remainder W R) →
     (Environment → Outcome W R) → Result (RunEnd R) AllocError → W → (left : ℕ) → Type 0
-Comes stands o result w left = (environment : Environment) × (calm_from environment ≡ undisturbed) × (after : Environment) × AnswersIn stands (o environment) result w left after
+Comes stands o result w left =
+    (environment : Environment) × (calm_from environment ≡ undisturbed) × (after : Environment) × AnswersIn stands (o environment) result w left after

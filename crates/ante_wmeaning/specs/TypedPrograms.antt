@@ -3,16 +3,16 @@ use Rattle.std.specs.Prelude.{◌≡◌, ℕ, ◌≤◌, List, [], length, slice
 use Rattle.ante_wtree.specs.declared.instructions.ValueKind.{ValueKind}
 use Rattle.ante_wtree.specs.declared.modules.FuncType.{FuncType}
 use Rattle.ante_wtree.specs.Trees.{Tree}
-use Rattle.ante_wtree.specs.Types.{kinds_of}
+use Rattle.ante_wtree.specs.Types.{kinds_of, result_of}
 use Rattle.ante_wvalid.specs.Typing.{Typed, type_numbered}
-use Rattle.ante_wtree.specs.Types.{result_of as first_of}
 use Rattle.ante_wvalid.specs.Modules.{function_types, context_of}
 use Rattle.ante_wmeaning.specs.Configurations.{FunctionInstance, Own, Given, Missing, Program}
 
 -- A function of this type: an own one has a typed body, and as many locals as this was typed with.
 abbrev pub IsOf : Tree → FunctionInstance → FuncType → Type 0
 IsOf m (Own kind locals body) t =
-    (kind ≡ t) × (kinds : List ValueKind) × (length kinds ≡ locals) × Typed (context_of m t.params kinds (first_of t.results)) body [] (kinds_of (first_of t.results))
+    (kind ≡ t) × (kinds : List ValueKind) × (length kinds ≡ locals)
+    × Typed (context_of m t.params kinds (result_of t.results)) body [] (kinds_of (result_of t.results))
 IsOf m (Given kind number) t = kind ≡ t
 IsOf m Missing t = ⊥
 

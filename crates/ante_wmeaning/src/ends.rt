@@ -1,17 +1,23 @@
+use thiserror::Error;
+
 /// Why an instruction has no answer.
-#[derive(Clone, Copy, PartialEq, Eq, Debug)]
+#[derive(Clone, Copy, PartialEq, Eq, Debug, Error)]
 pub enum TrapKind {
-    /// `unreachable` was executed.
+    #[error("unreachable executed")]
     Unreachable,
-    /// The divisor is 0.
+    #[error("integer divide by zero")]
     DivZero,
     /// The signed quotient doesn't fit.
+    #[error("integer overflow")]
     DivOverflow,
     /// A byte lies past the memory's end, or a segment doesn't fit.
+    #[error("out of bounds memory or table access")]
     OutOfBounds,
     /// The table's place is empty, or past its end.
+    #[error("undefined element")]
     NoElement,
     /// The table's function has another type.
+    #[error("indirect call type mismatch")]
     WrongType,
 }
 

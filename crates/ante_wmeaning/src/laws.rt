@@ -13,7 +13,9 @@ use ante_wvalid::ValidModule;
 /// A run of a valid module never gets stuck.
 pub fn never_stuck<H: Host>()
     ensures { NeverStuck H.allowed H.meaning }
-{}
+{
+    one_number_a_name();
+}
 
 /// Each function of the host's that a validated module has is of the type that hosts give it. So a host whose replies are
 /// of its own functions' types meets what a run asks of the replies.

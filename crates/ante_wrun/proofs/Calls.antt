@@ -12,6 +12,7 @@ use Rattle.ante_wtree.specs.declared.instructions.ValueKind.{ValueKind}
 use Rattle.ante_wtree.specs.declared.instructions.Instr.{Instr}
 use Rattle.ante_wtree.specs.declared.modules.FuncType.{FuncType}
 use Rattle.ante_wtree.specs.Expressions.{Expression, expression_of}
+use Rattle.ante_wtree.specs.Types.{result_of}
 use Rattle.ante_wmeaning.specs.declared.ends.RunEnd.{RunEnd}
 use Rattle.ante_wmeaning.specs.declared.ends.RunEnd.TheVariants as end
 use Rattle.ante_wrun.specs.declared.data.Data.{Data}
@@ -23,7 +24,6 @@ use Rattle.ante_wrun.specs.declared.control.Next.TheVariants as next
 use Rattle.ante_wmeaning.specs.PlainInstructions.{popped}
 use Rattle.ante_wmeaning.specs.Environment.{Environment}
 use Rattle.ante_wmeaning.specs.Configurations.{Program, FunctionInstance, State, Outcome, Ended, on_stack}
-use Rattle.ante_wmeaning.specs.ValueTypes.{result_of}
 use Rattle.ante_wmeaning.specs.Execution.{and_then, of_function, chosen, of_block, arguments, pay_pages, grow_if, grow, grown_by, does, call}
 use Rattle.ante_wrun.specs.Frames.{FrameValues, InCall, unwind}
 use Rattle.ante_wrun.specs.ThreadStates.{opens, under}

@@ -12,7 +12,7 @@ use Rattle.ante_wrun.specs.declared.blocks.Frame.{Frame}
 use Rattle.ante_wrun.specs.declared.blocks.Frame.TheVariants as frame
 use Rattle.ante_wmeaning.specs.Environment.{Environment}
 use Rattle.ante_wmeaning.specs.Configurations.{Program, State, Outcome, Normal, Branch, Returned, on_stack}
-use Rattle.ante_wmeaning.specs.ValueTypes.{arity}
+use Rattle.ante_wmeaning.specs.Arities.{arity}
 use Rattle.ante_wmeaning.specs.Execution.{keep, unwound, only_if, and_then, jump_unless, taking, acts, does, call}
 use Rattle.ante_wmeaning.specs.PlainInstructions.{low, top, popped}
 use Rattle.ante_wrun.specs.Frames.{FrameValues}

@@ -6,8 +6,8 @@ use Rattle.std.proofs.lemmas.List.{length-take-le, length-reverse}
 use Rattle.std.proofs.Math.Seq.{take-append_seam, drop-append_seam}
 use Rattle.ante_wtree.specs.declared.instructions.ValueKind.{ValueKind}
 use Rattle.ante_wtree.specs.declared.instructions.ValueKind.TheVariants.{I32, I64}
+use Rattle.ante_wtree.specs.Types.{mask, masked, all_fit}
 use Rattle.ante_wmeaning.specs.PlainInstructions.{popped}
-use Rattle.ante_wmeaning.specs.ValueTypes.{mask, masked, all_fit}
 use Rattle.ante_wmeaning.specs.Execution.{keep, arguments}
 use Rattle.ante_wrun.specs.Frames.{FrameValues}
 use Rattle.ante_wrun.proofs.Regions.{view, keep_view, args_view, kept_discard}

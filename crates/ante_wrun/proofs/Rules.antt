@@ -14,7 +14,7 @@ use Rattle.ante_wrun.specs.declared.blocks.Frame.TheVariants as frame
 use Rattle.ante_wrun.specs.declared.thread.Thread.{Thread}
 use Rattle.ante_wmeaning.specs.PlainInstructions.{Values, Effect, NoRule, effect, operands, finds, done, low, top, popped}
 use Rattle.ante_wmeaning.specs.Configurations.{Program, FunctionInstance, Own, Given, Missing, State, Outcome, Normal, Branch, Returned, Ended, Lacks, InHost, Stuck, on_stack, stack_of}
-use Rattle.ante_wmeaning.specs.ValueTypes.{arity}
+use Rattle.ante_wmeaning.specs.Arities.{arity}
 use Rattle.ante_wmeaning.specs.Execution.{only_if, and_then, of_effect, of_block, chosen, jump_unless, grow, element, acts, does, taking, target, of_function, of_reply, call}
 use Rattle.ante_wrun.specs.ThreadStates.{under, whole, Reaches, Returns, Gives}
 use Rattle.ante_wrun.specs.Control.{Takes, Leaves}

@@ -9,6 +9,7 @@ use Rattle.ante_wmem.specs.HostCalls.{HostMeaning}
 use Rattle.ante_wtree.specs.declared.instructions.Instr.{Instr}
 use Rattle.ante_wtree.specs.declared.instructions.PlainInstr.{PlainInstr}
 use Rattle.ante_wtree.specs.Expressions.{expression_of, cons}
+use Rattle.ante_wtree.specs.Limits.{round_steps}
 use Rattle.ante_wmeaning.specs.declared.ends.TrapKind.{TrapKind}
 use Rattle.ante_wmeaning.specs.declared.ends.RunEnd.TheVariants as end
 use Rattle.ante_wrun.specs.declared.plain.Tried.TheVariants as tried
@@ -31,7 +32,7 @@ use Rattle.ante_wrun.proofs.Turning.{starts_put, pay_paid, begins-front, begins-
 
 -- ---- steps
 
-not_due : (left : ℕ) → 0 < left % 1024 → due left (suc left) ≡ false
+not_due : (left : ℕ) → 0 < left % round_steps → due left (suc left) ≡ false
 not_due left r = let le : round (suc left) ≤ round left = omega (arith, r) in grind (arith, le, ltb-true)
 
 module _ {W R : Type 0} (host : HostMeaning W R) (program : Program) (free : ℕ) (frames : List Frame) (w : W) where
@@ -39,7 +40,7 @@ module _ {W R : Type 0} (host : HostMeaning W R) (program : Program) (free : ℕ
   abbrev pub acting : Instr → List Instr → FrameValues → State W → Outcome W R
   acting i rest v s = under host program free v.below frames (acts program (call host program free) (cons i (expression_of rest)) s)
 
-  pub paid_step : (i : Instr) (rest : List Instr) (v : FrameValues) (g : List ℕ) (m : LinearMemory) (left : ℕ) (o : Environment) → 0 < left % 1024 → o.item_lacks o.items ≡ false →
+  pub paid_step : (i : Instr) (rest : List Instr) (v : FrameValues) (g : List ℕ) (m : LinearMemory) (left : ℕ) (o : Environment) → 0 < left % round_steps → o.item_lacks o.items ≡ false →
       goes host program free frames (i ∷ rest) v (stepping v g m w left o) ≡ acting i rest v (stepping v g m w (left - 1) (after_item o))
   paid_step i rest v g m left o r h =
       let s = stepping v g m w left o in
@@ -94,7 +95,7 @@ module _ {W R : Type 0} (host : HostMeaning W R) (program : Program) (free : ℕ
 
   -- ---- the next instruction
 
-  module _ (code : List Instr) (i : Instr) (rest : List Instr) (v : FrameValues) (g : List ℕ) (m : LinearMemory) (left : ℕ) (is : code ≡ i ∷ rest) (r : 0 < left % 1024) where
+  module _ (code : List Instr) (i : Instr) (rest : List Instr) (v : FrameValues) (g : List ℕ) (m : LinearMemory) (left : ℕ) (is : code ≡ i ∷ rest) (r : 0 < left % round_steps) where
     paid : (o : Environment) → o.item_lacks o.items ≡ false → goes host program free frames code v (stepping v g m w left o) ≡ acting i rest v (stepping v g m w (left - 1) (after_item o))
     paid o h = ap (λ c. goes host program free frames c v (stepping v g m w left o)) is ∙ paid_step i rest v g m left o r h
 
@@ -123,10 +124,10 @@ stayed v v' g g' m m' e F h = subst (λ x. F x g' m') (sym e.0) (subst (λ x. F 
 -- ---- one stretch after another
 
 -- steps are left in the round
-pub in_round : (left most steps : ℕ) → most ≤ left % 1024 → steps < most → 0 < (left - steps) % 1024
+pub in_round : (left most steps : ℕ) → most ≤ left % round_steps → steps < most → 0 < (left - steps) % round_steps
 in_round left most steps le lt = omega (arith, le, lt)
 
-pub one_more : (left most steps : ℕ) → most ≤ left % 1024 → steps < most → left - steps - 1 ≡ left - (steps + 1)
+pub one_more : (left most steps : ℕ) → most ≤ left % round_steps → steps < most → left - steps - 1 ≡ left - (steps + 1)
 one_more left most steps le lt = omega arith
 
 module _ {W R : Type 0} (host : HostMeaning W R) (program : Program) where

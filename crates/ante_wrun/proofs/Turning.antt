@@ -11,6 +11,7 @@ use Rattle.ante_wtree.specs.declared.instructions.Instr.{Instr}
 use Rattle.ante_wtree.specs.declared.instructions.Instr.TheVariants as instr
 use Rattle.ante_wtree.specs.declared.modules.FuncType.{FuncType}
 use Rattle.ante_wtree.specs.Expressions.{Expression, Over, expression_of, cons}
+use Rattle.ante_wtree.specs.Types.{masked}
 use Rattle.ante_wmeaning.specs.declared.ends.RunEnd.{RunEnd}
 use Rattle.ante_wmeaning.specs.declared.ends.RunEnd.TheVariants as end
 use Rattle.ante_wrun.specs.declared.blocks.Frame.{Frame}
@@ -18,7 +19,6 @@ use Rattle.ante_wrun.specs.declared.blocks.Frame.TheVariants as frame
 use Rattle.ante_wrun.specs.declared.thread.Thread.{Thread}
 use Rattle.ante_wmeaning.specs.Environment.{Environment, after_look, after_item}
 use Rattle.ante_wmeaning.specs.Configurations.{Program, State, Outcome, Normal, Branch, Returned, Ended, Lacks, InHost, Stuck, stack_of}
-use Rattle.ante_wmeaning.specs.ValueTypes.{masked}
 use Rattle.ante_wmeaning.specs.Execution.{and_then, settled, invoked, arguments, supplied, pay, seen, step, starts, due, of_reply, host_supplied, call_host, acts, does, call}
 use Rattle.ante_wrun.specs.ThreadStates.{state_of, under, whole, going, after, Finds}
 use Rattle.ante_wmeaning.specs.RunEnds.{Stops}

@@ -19,10 +19,14 @@ pub data Open : Type 0 where
   InCall : (kind : Option ValueKind) → (locals stack : List ℕ) → (free : ℕ) → (rest : Expression) → Open
 
 module _ {W R : Type 0} (host : HostMeaning W R) (program : Program) where
+  -- the code after a body, where so many frames are free
+  abbrev pub then_rest : (free : ℕ) → Expression → Outcome W R → Outcome W R
+  then_rest free rest o = and_then o (does program (call host program free) rest)
+
   -- the outcome of the whole, where this is the innermost body's
   abbrev pub unwind : (free : ℕ) → List Open → Outcome W R → Outcome W R
   unwind free [] o = settled o
-  unwind free (InBlock kind height rest ∷ frames) o = unwind free frames (and_then (of_block kind height o) (does program (call host program free) rest))
+  unwind free (InBlock kind height rest ∷ frames) o = unwind free frames (then_rest free rest (of_block kind height o))
   unwind free (InLoop height body rest ∷ frames) o =
-      unwind free frames (and_then (of_loop height o (λ s. turns (suc s.left) (does program (call host program free) body) height s)) (does program (call host program free) rest))
-  unwind free (InCall kind locals stack above rest ∷ frames) o = unwind above frames (and_then (of_call kind locals stack o) (does program (call host program above) rest))
+      unwind free frames (then_rest free rest (of_loop height o (λ s. turns (suc s.left) (does program (call host program free) body) height s)))
+  unwind free (InCall kind locals stack above rest ∷ frames) o = unwind above frames (then_rest above rest (of_call kind locals stack o))

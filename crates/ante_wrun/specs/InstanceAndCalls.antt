@@ -13,7 +13,7 @@ use Rattle.ante_wmeaning.specs.Configurations.{Outcome, Normal}
 use Rattle.ante_wrun.specs.ThreadStates.{values_of, state_of}
 use Rattle.ante_wrun.specs.Control.{program_of}
 use Rattle.ante_wmeaning.specs.Environment.{Wanting}
-use Rattle.ante_wmeaning.specs.RunEnds.{Ends, Lacking}
+use Rattle.ante_wmeaning.specs.RunEnds.{Remainder, Ends, Lacking}
 use Rattle.ante_wmeaning.specs.Instantiation.{segments_fit, program_in, first_values}
 
 -- the module's instance, or none where a segment doesn't fit
@@ -27,8 +27,7 @@ OnReturn (called.Returned d) P = P
 OnReturn (called.Ended e) P = Unit {0}
 
 -- a call from outside, from its outcome
-abbrev pub CallLeads : {W R : Type 0} → (stands : W → ℕ → List ℕ → LinearMemory → ℕ → HostAnswer R → W → Type 0) →
-    Outcome W R → Result (Called R) AllocError → W → (left last : ℕ) → Environment → Type 0
+abbrev pub CallLeads : {W R : Type 0} → (stands : Remainder W R) → Outcome W R → Result (Called R) AllocError → W → (left last : ℕ) → Environment → Type 0
 CallLeads stands o (Ok (called.Returned d)) w left last environment = o ≡ Normal (state_of d w left last environment)
 CallLeads stands o (Ok (called.Ended e)) w left last environment = Ends stands e w left environment o × (e ≡ end.Done → ⊥)
 CallLeads stands o (Err e) w left last environment = Wanting environment → Lacking stands w left environment o

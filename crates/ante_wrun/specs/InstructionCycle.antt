@@ -13,13 +13,12 @@ use Rattle.ante_wrun.specs.declared.run.HostNext.{HostNext}
 use Rattle.ante_wrun.specs.declared.run.HostNext.TheVariants as host_next
 use Rattle.ante_wrun.specs.declared.run.Progress.{Progress}
 use Rattle.ante_wrun.specs.declared.run.Progress.TheVariants as progress
-use Rattle.ante_wmeaning.specs.Environment.{Environment, after_call}
+use Rattle.ante_wmeaning.specs.Environment.{Environment, after_call, Wanting}
+use Rattle.ante_wmeaning.specs.RunEnds.{Remainder, Ends, Lacking}
 use Rattle.ante_wmeaning.specs.Configurations.{Program, Outcome, Normal}
-use Rattle.ante_wmeaning.specs.ValueTypes.{gives_none}
+use Rattle.ante_wmeaning.specs.Arities.{gives_none}
 use Rattle.ante_wmeaning.specs.Execution.{due}
 use Rattle.ante_wrun.specs.ThreadStates.{state_of, going}
-use Rattle.ante_wmeaning.specs.Environment.{Wanting}
-use Rattle.ante_wmeaning.specs.RunEnds.{Ends, Lacking}
 
 -- a look where one is due
 abbrev pub MayLook : {S : Type 0} → (may : S → Option ℕ → S → Type 0) → Bool → S → Option ℕ → S → Type 0
@@ -36,7 +35,11 @@ Pays left last paid.Yes left' last' = (left ≡ suc left') × (last' ≡ left)
 Pays left last paid.StepLimit left' last' = (left ≡ 0) × (left' ≡ 0)
 Pays left last (paid.Cut at) left' last' = (due left last ≡ true) × (left' ≡ left)
 
-module _ {W R : Type 0} (host : HostMeaning W R) (stands : W → ℕ → List ℕ → LinearMemory → ℕ → HostAnswer R → W → Type 0) (program : Program) where
+-- the arguments of a host call, below the room for its result
+abbrev pub host_arguments : FuncType → List ℕ → List ℕ
+host_arguments kind stack = masked kind.params (arguments (length kind.params) (popped stack))
+
+module _ {W R : Type 0} (host : HostMeaning W R) (stands : Remainder W R) (program : Program) where
   -- a host call, from the outcome of the whole that begins with it
   abbrev pub HostLeads : Outcome W R → HostNext R → Thread → W → (left last : ℕ) → Environment → Type 0
   HostLeads o host_next.Go t w left last environment =
@@ -51,7 +54,7 @@ module _ {W R : Type 0} (host : HostMeaning W R) (stands : W → ℕ → List �
   TurnLeads o (Ok (progress.Ended e)) t w left last environment = Ends stands e w left environment o
   TurnLeads o (Err e) t w left last environment = Wanting environment → Lacking stands w left environment o
 
-module _ {W R : Type 0} (stands : W → ℕ → List ℕ → LinearMemory → ℕ → HostAnswer R → W → Type 0) where
+module _ {W R : Type 0} (stands : Remainder W R) where
   -- a run to the end of the last body, or to its own end
   abbrev pub RunLeads : Outcome W R → Result (Option (RunEnd R)) AllocError → Thread → W → (left last : ℕ) → Environment → Type 0
   RunLeads o (Ok None) t w left last environment = o ≡ Normal (state_of t.state w left last environment)

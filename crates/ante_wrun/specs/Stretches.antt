@@ -13,26 +13,30 @@ use Rattle.ante_wrun.specs.declared.blocks.Frame.TheVariants as frame
 use Rattle.ante_wrun.specs.declared.thread.Thread.{Thread}
 use Rattle.ante_wrun.specs.declared.stretch.Moved.{Moved}
 use Rattle.ante_wrun.specs.declared.stretch.Moved.TheVariants as moved
-use Rattle.ante_wmeaning.specs.Environment.{Environment}
+use Rattle.ante_wmeaning.specs.Environment.{Environment, Event, Supplied, Begins, past}
 use Rattle.ante_wmeaning.specs.Configurations.{Program, State, Outcome}
 use Rattle.ante_wmeaning.specs.Execution.{acts, call}
 use Rattle.ante_wrun.specs.Frames.{FrameValues}
 use Rattle.ante_wrun.specs.ThreadStates.{values_in, state_of, under, goes, going}
-use Rattle.ante_wmeaning.specs.RunEnds.{Stops}
-use Rattle.ante_wmeaning.specs.Environment.{Event, Supplied}
-use Rattle.ante_wmeaning.specs.RunEnds.{NotStuck}
+use Rattle.ante_wmeaning.specs.RunEnds.{Stops, NotStuck}
 
 -- the state of these parts, where the instruction executed last took one step
 abbrev pub stepping : {W : Type 0} → FrameValues → (globals : List ℕ) → LinearMemory → W → (left : ℕ) → Environment → State W
-stepping v globals memory w left environment = record { values = values_in v globals memory; world = w; left = left; last = suc left; environment = environment }
+stepping v globals memory w left environment =
+    record { values = values_in v globals memory; world = w; left = left; last = suc left; environment = environment }
 
 -- some number of instructions had the memory that they wanted, and nothing else was asked of the environment
 abbrev pub WithoutLooks : (List Event → Type 0) → Type 0
 WithoutLooks holds = (n : ℕ) × holds (replicate n Supplied)
 
+-- this holds of each environment that begins so, and of what it is afterwards
+abbrev pub ThroughoutQuiet : (Environment → Environment → Type 0) → Type 0
+ThroughoutQuiet holds = WithoutLooks (λ events. (before : Environment) → Begins before events → holds before (past before events))
+
 -- the code and the open bodies may be exchanged: the whole has the same outcome
 abbrev pub SameFrom : {W R : Type 0} → HostMeaning W R → List Frame → List Instr → List Frame → List Instr → Type 0
-SameFrom {W} host frames code frames' code' = (program : Program) (free : ℕ) (v : FrameValues) (s : State W) → goes host program free frames code v s ≡ goes host program free frames' code' v s
+SameFrom {W} host frames code frames' code' =
+    (program : Program) (free : ℕ) (v : FrameValues) (s : State W) → goes host program free frames code v s ≡ goes host program free frames' code' v s
 
 -- a block or a loop
 abbrev pub IsInner : Frame → Type 0
@@ -68,6 +72,10 @@ module _ {W R : Type 0} (host : HostMeaning W R) (program : Program) (free : ℕ
   CodeLeads o (Some kind) code v s = Stops (end.Trap kind) s.world s.left s.environment o
 
 module _ {W R : Type 0} (host : HostMeaning W R) (program : Program) where
+  -- the outcome of the whole from this code on, with these values, and so many steps left
+  abbrev pub going_with : (free : ℕ) → List Frame → List Instr → FrameValues → (globals : List ℕ) → LinearMemory → W → (left : ℕ) → Environment → Outcome W R
+  going_with free frames code v globals memory w left environment = goes host program free frames code v (stepping v globals memory w left environment)
+
   -- the same, from the outcome of the whole before it
   abbrev pub StretchLeads : Outcome W R → Option TrapKind → Thread → W → (left last : ℕ) → Environment → Type 0
   StretchLeads o None t w left last environment = o ≡ going host program t (state_of t.state w left last environment)
@@ -83,5 +91,6 @@ HasRule {W} host code v frames = (program : Program) × (w : W) × (free : ℕ) 
 -- it leads from these values and open bodies to those, and to the code that is next; or it isn't done
 abbrev pub Within : {W R : Type 0} → HostMeaning W R → Expression → FrameValues → List Frame → Option (Bor (List Instr)) → FrameValues → List Frame → Type 0
 Within {W} host code v frames next v' frames' = (program : Program) (w : W) (free left last : ℕ) (environment : Environment) (d : Data) →
-    BranchLeads host program free frames' (under host program free v.below frames (acts program (call host program free) code (state_of (record d { values = v }) w left last environment)))
+    let before = state_of (record d { values = v }) w left last environment in
+    BranchLeads host program free frames' (under host program free v.below frames (acts program (call host program free) code before))
     next v' (state_of (record d { values = v' }) w left last environment)

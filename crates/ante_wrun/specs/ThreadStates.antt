@@ -5,7 +5,8 @@ use Rattle.ante_wmem.specs.Linear.{LinearMemory}
 use Rattle.ante_wmem.specs.HostCalls.{HostMeaning}
 use Rattle.ante_wtree.specs.declared.instructions.Instr.{Instr}
 use Rattle.ante_wtree.specs.declared.instructions.PlainInstr.{PlainInstr}
-use Rattle.ante_wtree.specs.Expressions.{Expression, Over, Plain, Block, Loop, If, Br, BrIf, BrTable, Return, Call, CallIndirect, MemoryGrow, expression_of, cons}
+use Rattle.ante_wtree.specs.Expressions.{Expression, expression_of, cons}
+use Rattle.ante_wtree.specs.Expressions.{Over, Plain, Block, Loop, If, Br, BrIf, BrTable, Return, Call, CallIndirect, MemoryGrow}
 use Rattle.ante_wrun.specs.declared.data.Data.{Data}
 use Rattle.ante_wrun.specs.declared.plain.Tried.{Tried}
 use Rattle.ante_wrun.specs.declared.plain.Tried.TheVariants as tried
@@ -15,8 +16,8 @@ use Rattle.ante_wrun.specs.declared.thread.Thread.{Thread}
 use Rattle.ante_wmeaning.specs.PlainInstructions.{Values, Effect, Next, Traps, operands, finds, done}
 use Rattle.ante_wmeaning.specs.Environment.{Environment}
 use Rattle.ante_wmeaning.specs.Configurations.{Program, State, Outcome, Normal}
-use Rattle.ante_wmeaning.specs.ValueTypes.{arity}
-use Rattle.ante_wmeaning.specs.Execution.{and_then, does, call}
+use Rattle.ante_wmeaning.specs.Arities.{arity}
+use Rattle.ante_wmeaning.specs.Execution.{and_then, acts, does, call}
 use Rattle.ante_wrun.specs.Frames.{FrameValues, Open, InBlock, InLoop, InCall, unwind}
 
 -- ---- plain instructions
@@ -130,6 +131,14 @@ module _ {W R : Type 0} (host : HostMeaning W R) (program : Program) where
   -- the outcome of the whole from here on
   abbrev pub going : Thread → State W → Outcome W R
   going t s = goes t.free t.frames t.code.now t.state.values s
+
+  -- the same, where the host is this, and so many steps are left
+  abbrev pub going_over : Thread → W → (left last : ℕ) → Environment → Outcome W R
+  going_over t w left last environment = going t (state_of t.state w left last environment)
+
+  -- the outcome of the whole, where this is left of the innermost body, and the step of its first instruction is paid
+  abbrev pub whole_acts : Thread → Expression → W → (left last : ℕ) → Environment → Outcome W R
+  whole_acts t code w left last environment = whole t (acts program (call host program t.free) code (state_of t.state w left last environment))
 
   -- the outcome of the whole, where this is that of the instruction before the rest
   abbrev pub after : Thread → Outcome W R → Outcome W R

@@ -1,12 +1,11 @@
 //! What one instruction does to a thread (section 4.4.5).
-ghost use Rattle.std.specs.Prelude.{◌≡◌, ℕ, ◌<◌, ◌≤◌, ◌&&◌, None, Some, length, IfOk, slice_get};
+ghost use Rattle.std.specs.Prelude.{◌≡◌, ℕ, ◌<◌, ◌≤◌, None, Some, length, IfOk, slice_get};
 ghost use Rattle.ante_wtree.specs.Expressions.{cons, cons_shape, expression_of};
 ghost use Rattle.ante_wmeaning.specs.PlainInstructions.{low, top, popped};
 ghost use Rattle.ante_wmeaning.specs.Environment.{Environment};
 ghost use Rattle.ante_wmeaning.specs.Configurations.{Program, on_stack, stack_of};
-ghost use Rattle.ante_wmeaning.specs.ValueTypes.{result_of, same_kind, same_kinds};
-ghost use Rattle.ante_wmeaning.specs.Execution.{is_of, element, grow, target, acts, call};
-ghost use Rattle.ante_wrun.specs.ThreadStates.{state_of, whole, after, IsNested};
+ghost use Rattle.ante_wmeaning.specs.Execution.{is_of, element, grow, target, call};
+ghost use Rattle.ante_wrun.specs.ThreadStates.{state_of, whole_acts, after, IsNested};
 ghost use Rattle.ante_wrun.specs.Control.{instance_of, program_of, own_at, Leads, NotHostCall, GivenAt, Takes, Leaves};
 ghost use Rattle.ante_wmeaning.specs.RunEnds.{NotStuck};
 
@@ -16,7 +15,7 @@ use crate::plain::{Tried, plain_with_room};
 use crate::thread::{Thread, branch, leave};
 use ante_wmeaning::TrapKind;
 use ante_wmem::Host;
-use ante_wtree::{FuncType, Instr, Shape, ValueKind, shape_of};
+use ante_wtree::{FuncType, Instr, Shape, result_of, same_type, shape_of};
 use std::alloc::{AllocError, Global};
 
 /// A function of the module: one of its own, with the number of its locals beside the parameters, or one of the host's.
@@ -51,51 +50,12 @@ pub(crate) enum Next<'a> {
     HostCall(&'a FuncType, u32),
 }
 
-fn result_of(kinds: &[ValueKind]) -> Option<ValueKind>
-    ensures { result ≡ result_of kinds.now }
-{
-    kinds.first().copied()
-}
-
-fn same_kind(one: ValueKind, two: ValueKind) -> bool
-    ensures { result ≡ same_kind one two }
-{
-    match one {
-        ValueKind::I32 => matches!(two, ValueKind::I32),
-        ValueKind::I64 => matches!(two, ValueKind::I64),
-    }
-}
-
-fn same_kinds(ones: &[ValueKind], twos: &[ValueKind]) -> bool
-    ensures { result ≡ same_kinds ones.now twos.now }
-{
-    let (mut one, mut two) = (ones, twos);
-    'kinds: while let Some((first, ones)) = one.split_first() {
-        let Some((second, twos)) = two.split_first() else {
-            return false;
-        };
-        if !same_kind(*first, *second) {
-            return false;
-        }
-        one = ones;
-        two = twos;
-    }
-    two.is_empty()
-}
-
-fn same_type(one: &FuncType, two: &FuncType) -> bool
-    ensures { result ≡ (same_kinds one.now.params two.now.params && same_kinds one.now.results two.now.results) }
-{
-    same_kinds(one.params.as_slice(), two.params.as_slice())
-        && same_kinds(one.results.as_slice(), two.results.as_slice())
-}
-
 fn is_of(function: Function<'_>, wanted: &FuncType) -> bool
     ensures { result ≡ is_of (instance_of function.entry) wanted.now }
 {
     match function {
-        Function::Own { kind, .. } => same_type(kind, wanted),
-        Function::Host { kind, .. } => same_type(kind, wanted),
+        Function::Own { kind, .. } => same_type(kind, wanted.params.as_slice(), wanted.results.as_slice()),
+        Function::Host { kind, .. } => same_type(kind, wanted.params.as_slice(), wanted.results.as_slice()),
     }
 }
 
@@ -134,7 +94,8 @@ fn enter<'a, H: Host>(
     ensures nested { IfOk result (λ next. IsNested thread.new) }
     ensures leads { IfOk result (λ next. (program : Program) (w : H) (left last : ℕ) (environment : Environment) →
         Leads H.meaning program
-        (after H.meaning program thread.old (own_at H.meaning program thread.old.free kind.entry.now locals (expression_of body.entry.now) (state_of thread.old.state w left last environment)))
+        (after H.meaning program thread.old
+        (own_at H.meaning program thread.old.free kind.entry.now locals (expression_of body.entry.now) (state_of thread.old.state w left last environment)))
         next thread.new w left last environment) }
 {
     let params = kind.params.len();
@@ -198,7 +159,8 @@ fn call_indirect<'a, H: Host>(
         let program = program_of functions.now in
         let s = state_of thread.old.state w left last environment in
         Leads H.meaning program
-        (after H.meaning program thread.old (target (element program wanted (low (top (stack_of s)))) (call H.meaning program thread.old.free) (on_stack s (popped (stack_of s)))))
+        (after H.meaning program thread.old
+        (target (element program wanted (low (top (stack_of s)))) (call H.meaning program thread.old.free) (on_stack s (popped (stack_of s)))))
         next thread.new w left last environment) }
 {
     let at = low(thread.state.values.pop());
@@ -250,12 +212,12 @@ fn begin<'a, H: Host>(
     shape: Shape<'a>,
 ) -> Result<Next<'a>, AllocError>
     requires sound { (program : Program) × (w : H) × (left : ℕ) × (last : ℕ) × (environment : Environment) ×
-        NotStuck (whole H.meaning program thread.old (acts program (call H.meaning program thread.old.free) (cons_shape shape (expression_of thread.old.code.now)) (state_of thread.old.state w left last environment))) }
+        NotStuck (whole_acts H.meaning program thread.old (cons_shape shape (expression_of thread.old.code.now)) w left last environment) }
     requires nested { IsNested thread.old }
     ensures nested { IfOk result (λ next. IsNested thread.new) }
     ensures leads { IfOk result (λ next. (program : Program) (w : H) (left last : ℕ) (environment : Environment) →
         Leads H.meaning program
-        (whole H.meaning program thread.old (acts program (call H.meaning program thread.old.free) (cons_shape shape.entry (expression_of thread.old.code.now)) (state_of thread.old.state w left last environment)))
+        (whole_acts H.meaning program thread.old (cons_shape shape.entry (expression_of thread.old.code.now)) w left last environment)
         next thread.new w left last environment) }
 {
     let values = &mut thread.state.values;
@@ -278,14 +240,14 @@ pub(crate) fn act<'a, H: Host>(
     left: &mut u64,
 ) -> Result<Next<'a>, AllocError>
     requires sound { (w : H) × (last : ℕ) × (environment : Environment) × (let program = program_of functions.now in
-        NotStuck (whole H.meaning program thread.old (acts program (call H.meaning program thread.old.free) (cons instr.now (expression_of thread.old.code.now)) (state_of thread.old.state w left.old last environment)))) }
+        NotStuck (whole_acts H.meaning program thread.old (cons instr.now (expression_of thread.old.code.now)) w left.old last environment)) }
     requires nested { IsNested thread.old }
     ensures falls { left.new ≤ left.old }
     ensures nested { IfOk result (λ next. IsNested thread.new) }
     ensures leads { IfOk result (λ next. (w : H) (last : ℕ) (environment : Environment) →
         let program = program_of functions.now in
         Leads H.meaning program
-        (whole H.meaning program thread.old (acts program (call H.meaning program thread.old.free) (cons instr.entry.now (expression_of thread.old.code.now)) (state_of thread.old.state w left.old last environment)))
+        (whole_acts H.meaning program thread.old (cons instr.entry.now (expression_of thread.old.code.now)) w left.old last environment)
         next thread.new w left.new last environment) }
 {
     let shape = shape_of(instr);

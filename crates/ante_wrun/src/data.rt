@@ -1,12 +1,13 @@
 //! What the plain instructions change, and the numbers that they read.
 ghost use Rattle.std.specs.Prelude.{◌≡◌, ◌+◌, ◌-◌, ◌≤◌, ◌<◌, ◌^◌, nat_lt, if◌then◌else◌};
-ghost use Rattle.ante_wmeaning.specs.PlainInstructions.{low, trap_of, load_width, store_width, extended};
+ghost use Rattle.ante_wtree.specs.Accesses.{extended};
+ghost use Rattle.ante_wmeaning.specs.PlainInstructions.{low, trap_of};
 
 use crate::values::ValueStack;
 use ante_wmeaning::TrapKind;
-use ante_wmem::{Memory, Width};
+use ante_wmem::Memory;
 use ante_wnum::NumTrap;
-use ante_wtree::{LoadKind, StoreKind};
+use ante_wtree::LoadKind;
 
 /// The values of the frames, the globals and the memory of an instance.
 #[derive(Drop)]
@@ -30,30 +31,6 @@ pub(crate) fn trap_of(kind: NumTrap) -> TrapKind
     match kind {
         NumTrap::DivZero => TrapKind::DivZero,
         NumTrap::DivOverflow => TrapKind::DivOverflow,
-    }
-}
-
-#[inline(always)]
-pub(crate) fn load_width(kind: LoadKind) -> Width
-    ensures { result ≡ load_width kind }
-{
-    match kind {
-        LoadKind::I64 => Width::Eight,
-        LoadKind::I32 | LoadKind::I64S32 | LoadKind::I64U32 => Width::Four,
-        LoadKind::I32S16 | LoadKind::I32U16 | LoadKind::I64S16 | LoadKind::I64U16 => Width::Two,
-        LoadKind::I32S8 | LoadKind::I32U8 | LoadKind::I64S8 | LoadKind::I64U8 => Width::One,
-    }
-}
-
-#[inline(always)]
-pub(crate) fn store_width(kind: StoreKind) -> Width
-    ensures { result ≡ store_width kind }
-{
-    match kind {
-        StoreKind::I64 => Width::Eight,
-        StoreKind::I32 | StoreKind::I64As32 => Width::Four,
-        StoreKind::I32As16 | StoreKind::I64As16 => Width::Two,
-        StoreKind::I32As8 | StoreKind::I64As8 => Width::One,
     }
 }
 

@@ -7,7 +7,9 @@ ghost use Rattle.ante_wtree.specs.Trees.{body_of, tree_of};
 ghost use Rattle.ante_wvalid.specs.Modules.{IsValid, OutOfBounds};
 ghost use Rattle.ante_wrun.specs.ThreadStates.{values_of};
 ghost use Rattle.ante_wrun.specs.Control.{instance_of, program_of};
-ghost use Rattle.ante_wmeaning.specs.Instantiation.{host_place, given_as, given_functions, own, own_functions, constant, offset_of, empty_table, most_pages, empty_memory, elements_fit, data_fits, with_element, with_segment, program_in, first_values, named_apply, apply_in};
+ghost use Rattle.ante_wmeaning.specs.Instantiation.{host_place, given_as, given_functions, own, own_functions, program_in};
+ghost use Rattle.ante_wmeaning.specs.Instantiation.{constant, offset_of, empty_table, most_pages, empty_memory, first_values};
+ghost use Rattle.ante_wmeaning.specs.Instantiation.{elements_fit, data_fits, with_element, with_segment, named_apply, apply_in};
 ghost use Rattle.ante_wrun.specs.GrantedByValidity.{Links, IsLiteral};
 ghost use Rattle.ante_wrun.specs.InstanceAndCalls.{IsInstance};
 
@@ -103,7 +105,8 @@ fn add_own<'a>(
 ) -> Result<(), AllocError>
     requires types { AllByRecursion (λ kind. kind < length types.now) kinds.now }
     requires bodies { length kinds.now ≡ length codes.now }
-    ensures { OnOk result (map instance_of all.new.items ≡ map instance_of all.old.items ++ own_functions types.entry.now kinds.now (map body_of codes.entry.now)) }
+    ensures { OnOk result (map instance_of all.new.items
+        ≡ map instance_of all.old.items ++ own_functions types.entry.now kinds.now (map body_of codes.entry.now)) }
 {
     let (mut kind, mut code) = (kinds, codes);
     'functions: while let Some((number, kinds)) = kind.split_first() {

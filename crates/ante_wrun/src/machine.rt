@@ -1,19 +1,16 @@
 //! The public call.
 ghost use Rattle.std.specs.Prelude.{◌≡◌, ℕ, ◌≤◌, [], length, reverse, Ok, IfOk};
 ghost use Rattle.ante_wtree.specs.Trees.{tree_of};
+ghost use Rattle.ante_wtree.specs.Limits.{most_frames};
+ghost use Rattle.ante_wtree.specs.Replies.{AnswersTyped};
 ghost use Rattle.ante_wvalid.specs.Modules.{IsValid};
-ghost use Rattle.ante_wmeaning.specs.Environment.{Environment};
+ghost use Rattle.ante_wmeaning.specs.Environment.{Throughout, CountsLooks, undisturbed, Passes, AskedLast};
+ghost use Rattle.ante_wmeaning.specs.Instantiation.{program_in, apply_in};
+ghost use Rattle.ante_wmeaning.specs.Invocation.{called_with, start_runs, apply_runs, both_run, run_of};
+ghost use Rattle.ante_wmeaning.specs.RunEnds.{Sound, RunAnswers, EndsWith, Uncut, Comes};
+ghost use Rattle.ante_wmeaning.specs.HostConditions.{MayCall, MayBelow, IsHosts, ImportsTyped};
 ghost use Rattle.ante_wrun.specs.ThreadStates.{state_of};
 ghost use Rattle.ante_wrun.specs.Control.{program_of};
-ghost use Rattle.ante_wmeaning.specs.Environment.{Begins, past, ByEvents};
-ghost use Rattle.ante_wmeaning.specs.RunEnds.{Sound};
-ghost use Rattle.ante_wmeaning.specs.HostConditions.{MayCall, MayBelow, IsHosts};
-ghost use Rattle.ante_wmeaning.specs.Instantiation.{program_in, apply_in};
-ghost use Rattle.ante_wmeaning.specs.Environment.{CountsLooks, undisturbed, Passes, AskedLast};
-ghost use Rattle.ante_wtree.specs.Limits.{most_frames};
-ghost use Rattle.ante_wmeaning.specs.Invocation.{called_with, start_runs, apply_runs, both_run, run_of};
-ghost use Rattle.ante_wmeaning.specs.RunEnds.{RunAnswers, EndsWith, Uncut, Comes};
-ghost use Rattle.ante_wmeaning.specs.HostConditions.{AnswersTyped};
 ghost use Rattle.ante_wrun.specs.InstanceAndCalls.{OnReturn, CallLeads};
 
 use crate::control::Functions;
@@ -24,7 +21,7 @@ use crate::thread::Thread;
 use crate::values::ValueStack;
 use ante_base::Stop;
 use ante_stack::Stack;
-use ante_wmeaning::{RunEnd, TrapKind};
+use ante_wmeaning::{RunEnd, TrapKind, imports_have_host_types};
 use ante_wmem::Host;
 use ante_wtree::Module;
 use ante_wtree::limits::most_frames;
@@ -66,11 +63,12 @@ fn call_with<'a, H: Host, P: Stop>(
 ) -> Result<Called<H::Refusal>, AllocError>
     requires below { MayBelow H.allowed (program_of functions.now) host.old left.old }
     requires here { IsHosts (program_of functions.now) function → MayCall H.allowed (program_of functions.now) host.old left.old }
-    requires sound { Sound (λ environment. called_with H.meaning (program_of functions.now) args.now function (state_of state host.old left.old last.old environment)) }
+    requires sound { Sound (λ environment.
+        called_with H.meaning (program_of functions.now) args.now function (state_of state host.old left.old last.old environment)) }
     ensures leads { let program = program_of functions.now in
-        ByEvents P.may stop.old stop.new (λ events. (environment : Environment) → Begins environment events →
-        CallLeads H.stands (called_with H.meaning program args.now function (state_of state host.old left.old last.old environment))
-        result host.new left.new last.new (past environment events)) }
+        Throughout P.may stop.old stop.new (λ before after.
+        CallLeads H.stands (called_with H.meaning program args.now function (state_of state host.old left.old last.old before))
+        result host.new left.new last.new after) }
     ensures allowed { IfOk result (λ called. OnReturn called (MayBelow H.allowed (program_of functions.now) host.new left.new)) }
     ensures falls { left.new ≤ left.old }
 {
@@ -114,11 +112,12 @@ fn call_start<'a, H: Host, P: Stop>(
 ) -> Result<Called<H::Refusal>, AllocError>
     requires below { MayBelow H.allowed (program_of functions.now) host.old left.old }
     requires here { MayCall H.allowed (program_of functions.now) host.old left.old }
-    requires sound { Sound (λ environment. start_runs H.meaning (program_of functions.now) start (state_of state host.old left.old last.old environment)) }
+    requires sound { Sound (λ environment.
+        start_runs H.meaning (program_of functions.now) start (state_of state host.old left.old last.old environment)) }
     ensures leads { let program = program_of functions.now in
-        ByEvents P.may stop.old stop.new (λ events. (environment : Environment) → Begins environment events →
-        CallLeads H.stands (start_runs H.meaning program start (state_of state host.old left.old last.old environment))
-        result host.new left.new last.new (past environment events)) }
+        Throughout P.may stop.old stop.new (λ before after.
+        CallLeads H.stands (start_runs H.meaning program start (state_of state host.old left.old last.old before))
+        result host.new left.new last.new after) }
     ensures allowed { IfOk result (λ called. OnReturn called (MayBelow H.allowed (program_of functions.now) host.new left.new)) }
     ensures falls { left.new ≤ left.old }
 {
@@ -153,11 +152,13 @@ fn call_apply<'a, H: Host, P: Stop>(
     requires valid { IsValid (tree_of module.now) }
     requires program { program_of functions.now ≡ program_in (tree_of module.now) }
     requires below { MayBelow H.allowed (program_of functions.now) host.old left.old }
-    requires sound { Sound (λ environment. apply_runs H.meaning (program_of functions.now) (apply_in (tree_of module.now)) args.now (state_of state host.old left.old last.old environment)) }
+    requires sound { Sound (λ environment. apply_runs H.meaning (program_of functions.now) (apply_in (tree_of module.now)) args.now
+        (state_of state host.old left.old last.old environment)) }
     ensures falls { left.new ≤ left.old }
-    ensures ends { ByEvents P.may stop.old stop.new (λ events. (environment : Environment) → Begins environment events →
-        RunAnswers H.stands (apply_runs H.meaning (program_of functions.now) (apply_in (tree_of module.now)) args.now (state_of state host.old left.old last.old environment))
-        result host.new left.new (past environment events)) }
+    ensures ends { Throughout P.may stop.old stop.new (λ before after.
+        RunAnswers H.stands (apply_runs H.meaning (program_of functions.now) (apply_in (tree_of module.now)) args.now
+        (state_of state host.old left.old last.old before))
+        result host.new left.new after) }
 {
     let Some(apply) = apply_index(module) else {
         unreachable!()
@@ -182,13 +183,14 @@ fn call_both<'a, H: Host, P: Stop>(
     requires valid { IsValid (tree_of module.now) }
     requires program { program_of functions.now ≡ program_in (tree_of module.now) }
     requires allowed { MayCall H.allowed (program_of functions.now) host.old left.old }
-    requires answers { AnswersTyped H.allowed H.meaning (program_in (tree_of module.now)) }
+    requires answers { ImportsTyped H.allowed H.meaning (program_in (tree_of module.now)) }
     requires globals { length state.globals.items ≡ length module.now.globals }
     requires arguments { length args.now ≡ 3 }
     ensures falls { left.new ≤ left.old }
-    ensures ends { ByEvents P.may stop.old stop.new (λ events. (environment : Environment) → Begins environment events →
-        RunAnswers H.stands (both_run H.meaning (program_of functions.now) (tree_of module.now) args.now (state_of state host.old left.old left.old environment))
-        result host.new left.new (past environment events)) }
+    ensures ends { Throughout P.may stop.old stop.new (λ before after.
+        RunAnswers H.stands (both_run H.meaning (program_of functions.now) (tree_of module.now) args.now
+        (state_of state host.old left.old left.old before))
+        result host.new left.new after) }
 {
     let mut last = *left;
     let start = module.start;
@@ -211,11 +213,11 @@ fn run_module<H: Host, P: Stop>(
 ) -> Result<RunEnd<H::Refusal>, AllocError>
     requires valid { IsValid (tree_of module.now) }
     requires allowed { MayCall H.allowed (program_in (tree_of module.now)) host.old left.old }
-    requires answers { AnswersTyped H.allowed H.meaning (program_in (tree_of module.now)) }
+    requires answers { ImportsTyped H.allowed H.meaning (program_in (tree_of module.now)) }
     requires arguments { length args.now ≡ 3 }
     ensures falls { left.new ≤ left.old }
-    ensures ends { ByEvents P.may stop.old stop.new (λ events. (environment : Environment) → Begins environment events →
-        RunAnswers H.stands (run_of H.meaning (tree_of module.now) args.now host.old left.old environment) result host.new left.new (past environment events)) }
+    ensures ends { Throughout P.may stop.old stop.new (λ before after.
+        RunAnswers H.stands (run_of H.meaning (tree_of module.now) args.now host.old left.old before) result host.new left.new after) }
 {
     let Some(instance) = instantiate(alloc, module)? else {
         return Ok(RunEnd::Trap(TrapKind::OutOfBounds));
@@ -235,7 +237,7 @@ impl Machine {
 
     /// Makes an instance of the module, calls its start function, where there is one, and then its `apply` with three
     /// arguments. `left` are the steps that may be taken. Looks at the stop each time that the steps left, in rounds of
-    /// 1,024, have come into a lower round. A segment that doesn't fit is a trap before anything runs.
+    /// `ROUND_STEPS`, have come into a lower round. A segment that doesn't fit is a trap before anything runs.
     ///
     /// After want of memory and after a cut, the host and `left` are as the last instruction done, or the host's own
     /// refused call, left them.
@@ -248,24 +250,27 @@ impl Machine {
         stop: &mut P,
         left: &mut u64,
     ) -> Result<RunEnd<H::Refusal>, AllocError>
-        // The host allows each import, with all arguments of its type, and answers as a function of that type does.
+        // The host allows each import, with all arguments of its type.
         requires allowed { MayCall H.allowed (program_in (tree_of module.now)) host.old left.old }
-        requires answers { AnswersTyped H.allowed H.meaning (program_in (tree_of module.now)) }
-        ensures ends { ByEvents P.may stop.old stop.new (λ events. (environment : Environment) → Begins environment events →
-            RunAnswers H.stands (run_of H.meaning (tree_of module.now) args host.old left.old environment) result host.new left.new (past environment events)
-            × CountsLooks (P.looks stop.old) (P.looks stop.new) environment (past environment events)) }
+        // Each of the host's functions answers as one of its type does.
+        requires answers { AnswersTyped H.allowed H.meaning }
+        ensures ends { Throughout P.may stop.old stop.new (λ before after.
+            RunAnswers H.stands (run_of H.meaning (tree_of module.now) args host.old left.old before) result host.new left.new after
+            × CountsLooks (P.looks stop.old) (P.looks stop.new) before after) }
 
         // The same where what was asked is left out: with this, `answers_like` says what a run is over any host that replies alike.
-        ensures comes { Comes H.stands (λ (environment : Environment). run_of H.meaning (tree_of module.now) args host.old left.old environment) result host.new left.new }
+        ensures comes { Comes H.stands (run_of H.meaning (tree_of module.now) args host.old left.old) result host.new left.new }
 
         // A run that no look cut is the run that nothing disturbs, with as many looks.
-        ensures undisturbed { Uncut result → IfOk result (λ end. EndsWith H.stands end host.new left.new (CountsLooks (P.looks stop.old) (P.looks stop.new) undisturbed)
+        ensures undisturbed { Uncut result → IfOk result (λ end.
+            EndsWith H.stands end host.new left.new (CountsLooks (P.looks stop.old) (P.looks stop.new) undisturbed)
             (run_of H.meaning (tree_of module.now) args host.old left.old undisturbed)) }
         ensures cut { (at : ℕ) → result ≡ Ok (RunEnd.Cut at) → AskedLast P.may stop.old at stop.new }
         ensures uncut { Uncut result → Passes P.may stop.old stop.new }
         ensures limit { result ≡ Ok RunEnd.StepLimit → left.new ≡ 0 }
         ensures falls { left.new ≤ left.old }
     {
+        imports_have_host_types(module);
         run_module(alloc, module.module(), &args, host, stop, left)
     }
 }

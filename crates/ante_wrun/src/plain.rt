@@ -4,14 +4,14 @@ ghost use Rattle.ante_wmem.specs.Linear.{LinearMemory};
 ghost use Rattle.ante_wmeaning.specs.PlainInstructions.{gives, done, popped};
 ghost use Rattle.ante_wrun.specs.ThreadStates.{values_in, values_of, Tries, TriesPlain, Ready, plain_of};
 
-use crate::data::{Data, extended, load_width, low, store_width, trap_of};
+use crate::data::{Data, extended, low, trap_of};
 use crate::values::ValueStack;
 use ante_wmeaning::TrapKind;
 use ante_wmem::Memory;
 use ante_wnum::{
     Binary, Compare, Unary, i32_binary, i32_compare, i32_unary, i64_binary, i64_compare, i64_unary,
 };
-use ante_wtree::{Instr, LoadKind, MemArg, PlainInstr, StoreKind};
+use ante_wtree::{Instr, LoadKind, MemArg, PlainInstr, StoreKind, load_width, store_width};
 use std::alloc::Global;
 
 /// What became of an instruction.
@@ -171,7 +171,8 @@ pub(crate) fn plain(
     instr: &Instr,
 ) -> Tried
     requires ready { Ready (plain_of instr.now) (values_in values.old globals.old.items memory.old) }
-    ensures effect { TriesPlain (plain_of instr.now) result (values_in values.old globals.old.items memory.old) (values_in values.new globals.new.items memory.new) }
+    ensures effect { TriesPlain (plain_of instr.now) result
+        (values_in values.old globals.old.items memory.old) (values_in values.new globals.new.items memory.new) }
     ensures below { values.new.below ≡ values.old.below }
 {
     match instr {

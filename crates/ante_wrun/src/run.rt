@@ -2,17 +2,14 @@
 ghost use Rattle.std.specs.Prelude.{◌≡◌, ℕ, ◌<◌, ◌≤◌, [], length, Ok, None, Some};
 ghost use Rattle.ante_wmem.specs.HostCalls.{StaysAllowed};
 ghost use Rattle.ante_wmeaning.specs.PlainInstructions.{popped};
-ghost use Rattle.ante_wmeaning.specs.Environment.{Environment};
+ghost use Rattle.ante_wmeaning.specs.Environment.{Environment, Throughout};
 ghost use Rattle.ante_wmeaning.specs.Configurations.{Program, on_stack};
-ghost use Rattle.ante_wmeaning.specs.ValueTypes.{masked};
-ghost use Rattle.ante_wmeaning.specs.Execution.{invoked, round, due, arguments, call_host};
-ghost use Rattle.ante_wrun.specs.ThreadStates.{state_of, going, after, IsNested};
-ghost use Rattle.ante_wrun.specs.Control.{program_of};
-ghost use Rattle.ante_wmeaning.specs.Environment.{Begins, past, ByEvents};
+ghost use Rattle.ante_wmeaning.specs.Execution.{invoked, round, due, call_host};
 ghost use Rattle.ante_wmeaning.specs.RunEnds.{Sound};
-ghost use Rattle.ante_wmeaning.specs.HostConditions.{MayCall, MayBelow, IsHosts};
-ghost use Rattle.ante_wmeaning.specs.HostConditions.{Replies};
-ghost use Rattle.ante_wrun.specs.InstructionCycle.{MayLook, look_of, Pays, HostLeads, TurnLeads, RunLeads};
+ghost use Rattle.ante_wmeaning.specs.HostConditions.{MayCall, MayBelow, IsHosts, Replies};
+ghost use Rattle.ante_wrun.specs.ThreadStates.{state_of, going_over, after, IsNested};
+ghost use Rattle.ante_wrun.specs.Control.{program_of};
+ghost use Rattle.ante_wrun.specs.InstructionCycle.{MayLook, look_of, Pays, host_arguments, HostLeads, TurnLeads, RunLeads};
 
 use crate::control::{Functions, Next, act, call_function};
 use crate::stretch::run_stretch;
@@ -21,6 +18,7 @@ use ante_base::Stop;
 use ante_wmeaning::RunEnd;
 use ante_wmem::{Host, HostAnswer, HostFn};
 use ante_wtree::FuncType;
+use ante_wtree::limits::ROUND_STEPS;
 use std::alloc::{AllocError, Global};
 
 /// Whether an instruction's step could be paid.
@@ -51,7 +49,7 @@ pub(crate) enum Progress<R> {
 fn round(left: u64) -> u64
     ensures { result ≡ round left }
 {
-    if left == 0 { 0 } else { (left - 1) / 1024 + 1 }
+    if left == 0 { 0 } else { (left - 1) / ROUND_STEPS + 1 }
 }
 
 #[inline(always)]
@@ -100,11 +98,13 @@ fn host_call<'a, H: Host>(
 ) -> HostNext<H::Refusal>
     requires room { length kind.now.params < length thread.old.state.values.stack }
     requires nested { IsNested thread.old }
-    requires allowed { H.allowed host.old number (masked kind.now.params (arguments (length kind.now.params) (popped thread.old.state.values.stack))) left.old }
-    requires replies { Replies kind.now.results (H.meaning host.old number (masked kind.now.params (arguments (length kind.now.params) (popped thread.old.state.values.stack))) thread.old.state.memory left.old).reply }
+    requires allowed { H.allowed host.old number (host_arguments kind.now thread.old.state.values.stack) left.old }
+    requires replies { let args = host_arguments kind.now thread.old.state.values.stack in
+        Replies kind.now.results (H.meaning host.old number args thread.old.state.memory left.old).reply }
     ensures leads { (program : Program) (last : ℕ) (environment : Environment) →
         let s = on_stack (state_of thread.old.state host.old left.old last environment) (popped thread.old.state.values.stack) in
-        HostLeads H.meaning H.stands program (after H.meaning program thread.old (call_host H.meaning kind.now number s)) result thread.new host.new left.new last environment }
+        HostLeads H.meaning H.stands program (after H.meaning program thread.old (call_host H.meaning kind.now number s))
+        result thread.new host.new left.new last environment }
     ensures after { StaysAllowed H.allowed host.old left.old host.new left.new }
     ensures nested { IsNested thread.new }
     ensures falls { left.new ≤ left.old }
@@ -144,15 +144,15 @@ fn turn<'a, H: Host, P: Stop>(
     last: &mut u64,
 ) -> Result<Progress<H::Refusal>, AllocError>
     requires below { MayBelow H.allowed (program_of functions.now) host.old left.old }
-    requires sound { Sound (λ environment. going H.meaning (program_of functions.now) thread.old (state_of thread.old.state host.old left.old last.old environment)) }
+    requires sound { Sound (going_over H.meaning (program_of functions.now) thread.old host.old left.old last.old) }
     requires nested { IsNested thread.old }
     ensures leads { let program = program_of functions.now in
-        ByEvents P.may stop.old stop.new (λ events. (environment : Environment) → Begins environment events →
-        TurnLeads H.meaning H.stands program (going H.meaning program thread.old (state_of thread.old.state host.old left.old last.old environment))
-        result thread.new host.new left.new last.new (past environment events)) }
+        Throughout P.may stop.old stop.new (λ before after.
+        TurnLeads H.meaning H.stands program (going_over H.meaning program thread.old host.old left.old last.old before)
+        result thread.new host.new left.new last.new after) }
     ensures falls { result ≡ Ok Progress.Go → left.new < left.old }
     ensures allowed { result ≡ Ok Progress.Go → MayBelow H.allowed (program_of functions.now) host.new left.new }
-    ensures sound { result ≡ Ok Progress.Go → Sound (λ environment. going H.meaning (program_of functions.now) thread.new (state_of thread.new.state host.new left.new last.new environment)) }
+    ensures sound { result ≡ Ok Progress.Go → Sound (going_over H.meaning (program_of functions.now) thread.new host.new left.new last.new) }
     ensures nested { result ≡ Ok Progress.Go → IsNested thread.new }
     ensures over { result ≡ Ok Progress.Over → MayBelow H.allowed (program_of functions.now) host.new left.new }
     ensures early { result ≡ Ok (Progress.Ended RunEnd.Done) → ⊥ }
@@ -195,12 +195,12 @@ fn run_thread<'a, H: Host, P: Stop>(
     last: &mut u64,
 ) -> Result<Option<RunEnd<H::Refusal>>, AllocError>
     requires below { MayBelow H.allowed (program_of functions.now) host.old left.old }
-    requires sound { Sound (λ environment. going H.meaning (program_of functions.now) thread.old (state_of thread.old.state host.old left.old last.old environment)) }
+    requires sound { Sound (going_over H.meaning (program_of functions.now) thread.old host.old left.old last.old) }
     requires nested { IsNested thread.old }
     ensures leads { let program = program_of functions.now in
-        ByEvents P.may stop.old stop.new (λ events. (environment : Environment) → Begins environment events →
-        RunLeads H.stands (going H.meaning program thread.old (state_of thread.old.state host.old left.old last.old environment))
-        result thread.new host.new left.new last.new (past environment events)) }
+        Throughout P.may stop.old stop.new (λ before after.
+        RunLeads H.stands (going_over H.meaning program thread.old host.old left.old last.old before)
+        result thread.new host.new left.new last.new after) }
     ensures allowed { result ≡ Ok None → MayBelow H.allowed (program_of functions.now) host.new left.new }
     ensures early { result ≡ Ok (Some RunEnd.Done) → ⊥ }
     ensures sinks { left.new ≤ left.old }
@@ -231,12 +231,13 @@ pub(crate) fn invoke<'a, H: Host, P: Stop>(
 ) -> Result<Option<RunEnd<H::Refusal>>, AllocError>
     requires idle { (length thread.old.code.now ≡ 0) × (thread.old.frames ≡ []) }
     requires below { MayBelow H.allowed (program_of functions.now) host.old left.old }
-    requires sound { Sound (λ environment. invoked H.meaning (program_of functions.now) thread.old.free function (state_of thread.old.state host.old left.old last.old environment)) }
+    requires sound { Sound (λ environment.
+        invoked H.meaning (program_of functions.now) thread.old.free function (state_of thread.old.state host.old left.old last.old environment)) }
     requires here { IsHosts (program_of functions.now) function → MayCall H.allowed (program_of functions.now) host.old left.old }
     ensures leads { let program = program_of functions.now in
-        ByEvents P.may stop.old stop.new (λ events. (environment : Environment) → Begins environment events →
-        RunLeads H.stands (invoked H.meaning program thread.old.free function (state_of thread.old.state host.old left.old last.old environment))
-        result thread.new host.new left.new last.new (past environment events)) }
+        Throughout P.may stop.old stop.new (λ before after.
+        RunLeads H.stands (invoked H.meaning program thread.old.free function (state_of thread.old.state host.old left.old last.old before))
+        result thread.new host.new left.new last.new after) }
     ensures allowed { result ≡ Ok None → MayBelow H.allowed (program_of functions.now) host.new left.new }
     ensures early { result ≡ Ok (Some RunEnd.Done) → ⊥ }
     ensures sinks { left.new ≤ left.old }

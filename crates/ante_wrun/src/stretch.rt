@@ -1,12 +1,11 @@
 //! Stretches of instructions that no look interrupts and that want no memory: plain ones, and blocks and branches inside a
 //! function. Their values, steps and code are kept at hand until the stretch ends.
 ghost use Rattle.std.specs.Prelude.{◌≡◌, ℕ, ◌-◌, ◌<◌, ◌≤◌, ◌%◌};
-ghost use Rattle.ante_wmeaning.specs.Environment.{Environment};
+ghost use Rattle.ante_wtree.specs.Limits.{round_steps};
 ghost use Rattle.ante_wmeaning.specs.Configurations.{Program};
-ghost use Rattle.ante_wrun.specs.ThreadStates.{goes, state_of, going, IsNested, Nested};
-ghost use Rattle.ante_wmeaning.specs.Environment.{Begins, past};
 ghost use Rattle.ante_wmeaning.specs.RunEnds.{Sound};
-ghost use Rattle.ante_wrun.specs.Stretches.{stepping, WithoutLooks, MoveLeads, CodeLeads, StretchLeads};
+ghost use Rattle.ante_wrun.specs.ThreadStates.{going_over, IsNested, Nested};
+ghost use Rattle.ante_wrun.specs.Stretches.{stepping, going_with, ThroughoutQuiet, MoveLeads, CodeLeads, StretchLeads};
 
 use crate::blocks::{Frame, after_blocks, control_within};
 use crate::plain::{Tried, plain};
@@ -16,6 +15,7 @@ use ante_stack::Stack;
 use ante_wmeaning::TrapKind;
 use ante_wmem::{Host, Memory};
 use ante_wtree::Instr;
+use ante_wtree::limits::ROUND_STEPS;
 use std::alloc::Global;
 use std::mem;
 
@@ -47,13 +47,14 @@ fn advance<'a, H: Host>(
     alloc: Global,
     code: &'a [Instr],
 ) -> Moved<'a>
-    requires { (program : Program) × (w : H) × (free : ℕ) × (left : ℕ) × (0 < left % 1024) ×
-        Sound (λ environment. goes H.meaning program free frames.old code.now values.old (stepping values.old globals.old.items memory.old w left environment)) }
-    ensures leads { (program : Program) (w : H) (free left : ℕ) → 0 < left % 1024 → WithoutLooks (λ events. (environment : Environment) → Begins environment events →
+    requires { (program : Program) × (w : H) × (free : ℕ) × (left : ℕ) × (0 < left % round_steps) ×
+        Sound (going_with H.meaning program free frames.old code.now values.old globals.old.items memory.old w left) }
+    ensures leads { (program : Program) (w : H) (free left : ℕ) → 0 < left % round_steps → ThroughoutQuiet (λ before after.
         MoveLeads H.meaning program free frames.new
-        (goes H.meaning program free frames.old code.entry.now values.old (stepping values.old globals.old.items memory.old w left environment))
-        result values.new (stepping values.new globals.new.items memory.new w (left - 1) (past environment events))) }
-    ensures undone { result ≡ Moved.Stays → (values.new ≡ values.old) × (globals.new.items ≡ globals.old.items) × (memory.new ≡ memory.old) × (frames.new ≡ frames.old) }
+        (going_with H.meaning program free frames.old code.entry.now values.old globals.old.items memory.old w left before)
+        result values.new (stepping values.new globals.new.items memory.new w (left - 1) after)) }
+    ensures undone { result ≡ Moved.Stays →
+        (values.new ≡ values.old) × (globals.new.items ≡ globals.old.items) × (memory.new ≡ memory.old) × (frames.new ≡ frames.old) }
     ensures below { values.new.below ≡ values.old.below }
     ensures nested { (below : ℕ) → Nested below frames.old → Nested below frames.new }
 {
@@ -81,12 +82,12 @@ fn run_code<'a, H: Host>(
     code: &'a [Instr],
     most: u64,
 ) -> Stretch<'a>
-    requires { (program : Program) × (w : H) × (free : ℕ) × (left : ℕ) × (most ≤ left % 1024) ×
-        Sound (λ environment. goes H.meaning program free frames.old code.now values.old (stepping values.old globals.old.items memory.old w left environment)) }
-    ensures leads { (program : Program) (w : H) (free left : ℕ) → most ≤ left % 1024 → WithoutLooks (λ events. (environment : Environment) → Begins environment events →
+    requires { (program : Program) × (w : H) × (free : ℕ) × (left : ℕ) × (most ≤ left % round_steps) ×
+        Sound (going_with H.meaning program free frames.old code.now values.old globals.old.items memory.old w left) }
+    ensures leads { (program : Program) (w : H) (free left : ℕ) → most ≤ left % round_steps → ThroughoutQuiet (λ before after.
         CodeLeads H.meaning program free frames.new
-        (goes H.meaning program free frames.old code.entry.now values.old (stepping values.old globals.old.items memory.old w left environment))
-        result.trap result.code.now values.new (stepping values.new globals.new.items memory.new w (left - result.steps) (past environment events))) }
+        (going_with H.meaning program free frames.old code.entry.now values.old globals.old.items memory.old w left before)
+        result.trap result.code.now values.new (stepping values.new globals.new.items memory.new w (left - result.steps) after)) }
     ensures few { result.steps ≤ most }
     ensures below { values.new.below ≡ values.old.below }
     ensures nested { (below : ℕ) → Nested below frames.old → Nested below frames.new }
@@ -132,11 +133,11 @@ pub(crate) fn run_stretch<'a, H: Host>(
     last: &mut u64,
 ) -> Option<TrapKind>
     requires nested { IsNested thread.old }
-    requires sound { (program : Program) × (w : H) × Sound (λ environment. going H.meaning program thread.old (state_of thread.old.state w left.old last.old environment)) }
-    ensures leads { (program : Program) (w : H) → WithoutLooks (λ events. (environment : Environment) → Begins environment events →
+    requires sound { (program : Program) × (w : H) × Sound (going_over H.meaning program thread.old w left.old last.old) }
+    ensures leads { (program : Program) (w : H) → ThroughoutQuiet (λ before after.
         StretchLeads H.meaning program
-        (going H.meaning program thread.old (state_of thread.old.state w left.old last.old environment))
-        result thread.new w left.new last.new (past environment events)) }
+        (going_over H.meaning program thread.old w left.old last.old before)
+        result thread.new w left.new last.new after) }
     ensures sinks { left.new ≤ left.old }
     ensures nested { IsNested thread.new }
 {
@@ -152,7 +153,7 @@ pub(crate) fn run_stretch<'a, H: Host>(
         &mut thread.frames,
         alloc,
         thread.code,
-        *left % 1024,
+        *left % ROUND_STEPS,
     );
     thread.state.values = values;
     thread.code = done.code;

@@ -2,7 +2,7 @@
 ghost use Rattle.std.specs.Prelude.{◌≡◌, ℕ, ◌∷◌, length};
 ghost use Rattle.ante_wmeaning.specs.Environment.{Environment};
 ghost use Rattle.ante_wmeaning.specs.Configurations.{Program, Normal, Branch, Returned};
-ghost use Rattle.ante_wrun.specs.ThreadStates.{state_of, under, whole, going, Nested, IsNested, Finds, Reaches, Returns, Gives};
+ghost use Rattle.ante_wrun.specs.ThreadStates.{state_of, under, whole, going_over, Nested, IsNested, Finds, Reaches, Returns, Gives};
 ghost use Rattle.ante_wmeaning.specs.RunEnds.{NotStuck};
 
 use crate::blocks::{Frame, inner_label, land};
@@ -27,8 +27,9 @@ pub(crate) fn resume<'a, H: Host>(thread: &mut Thread<'a>, frame: Frame<'a>)
     requires gives { Gives frame (length thread.old.state.values.stack) }
     requires nested { Nested (length thread.old.state.values.below) (frame ∷ thread.old.frames) }
     ensures whole { (program : Program) (w : H) (left last : ℕ) (environment : Environment) →
-        under H.meaning program thread.old.free thread.old.state.values.below (frame.entry ∷ thread.old.frames) (Normal (state_of thread.old.state w left last environment))
-        ≡ going H.meaning program thread.new (state_of thread.new.state w left last environment) }
+        under H.meaning program thread.old.free thread.old.state.values.below (frame.entry ∷ thread.old.frames)
+        (Normal (state_of thread.old.state w left last environment))
+        ≡ going_over H.meaning program thread.new w left last environment }
     ensures frames { thread.new.frames ≡ thread.old.frames }
     ensures nested { IsNested thread.new }
 {
@@ -53,10 +54,11 @@ pub(crate) fn resume<'a, H: Host>(thread: &mut Thread<'a>, frame: Frame<'a>)
 #[inline(always)]
 pub(crate) fn next_instr<'a, H: Host>(thread: &mut Thread<'a>) -> Option<&'a Instr>
     requires sound { (program : Program) × (w : H) × (left : ℕ) × (last : ℕ) × (environment : Environment) ×
-        NotStuck (going H.meaning program thread.old (state_of thread.old.state w left last environment)) }
+        NotStuck (going_over H.meaning program thread.old w left last environment) }
     requires nested { IsNested thread.old }
     ensures finds { (program : Program) (w : H) (left last : ℕ) (environment : Environment) →
-        Finds H.meaning program (going H.meaning program thread.old (state_of thread.old.state w left last environment)) result thread.new (state_of thread.new.state w left last environment) }
+        Finds H.meaning program (going_over H.meaning program thread.old w left last environment)
+        result thread.new (state_of thread.new.state w left last environment) }
     ensures nested { IsNested thread.new }
 {
     'bodies: loop {
@@ -78,7 +80,7 @@ pub(crate) fn branch<'a, H: Host>(thread: &mut Thread<'a>, depth: u32)
     requires nested { IsNested thread.old }
     ensures whole { (program : Program) (w : H) (left last : ℕ) (environment : Environment) →
         whole H.meaning program thread.old (Branch depth (state_of thread.old.state w left last environment))
-        ≡ going H.meaning program thread.new (state_of thread.new.state w left last environment) }
+        ≡ going_over H.meaning program thread.new w left last environment }
     ensures nested { IsNested thread.new }
 {
     match inner_label(&thread.frames, depth) {
@@ -97,7 +99,7 @@ pub(crate) fn leave<'a, H: Host>(thread: &mut Thread<'a>)
     requires nested { IsNested thread.old }
     ensures whole { (program : Program) (w : H) (left last : ℕ) (environment : Environment) →
         whole H.meaning program thread.old (Returned (state_of thread.old.state w left last environment))
-        ≡ going H.meaning program thread.new (state_of thread.new.state w left last environment) }
+        ≡ going_over H.meaning program thread.new w left last environment }
     ensures nested { IsNested thread.new }
 {
     'frames: while let Some(frame) = thread.frames.pop() {

@@ -1,7 +1,8 @@
 //! The locals and operands of all frames in one growing list.
 ghost use Rattle.std.specs.Prelude.{◌≡◌, ◌+◌, ◌<◌, ◌≤◌, [], ◌∷◌, ◌++◌, length, take, drop, reverse, replicate, slice_index, slice_set, OnOk, OnErr};
+ghost use Rattle.ante_wtree.specs.Types.{mask, masked};
 ghost use Rattle.ante_wmeaning.specs.PlainInstructions.{top, popped};
-ghost use Rattle.ante_wmeaning.specs.ValueTypes.{arity, mask, masked};
+ghost use Rattle.ante_wmeaning.specs.Arities.{arity};
 ghost use Rattle.ante_wmeaning.specs.Execution.{keep, unwound, arguments};
 
 use ante_slots::Slots;
@@ -267,7 +268,8 @@ fn mask(kind: ValueKind, value: u64) -> u64
 /// Masks as many values as there are kinds, from a place on.
 fn mask_from(values: &mut Slots, first: usize, kinds: &[ValueKind])
     requires { first + length kinds.now ≤ length values.old.items }
-    ensures values { values.new.items ≡ take first values.old.items ++ (masked kinds.now (take (length kinds.now) (drop first values.old.items)) ++ drop (length kinds.now) (drop first values.old.items)) }
+    ensures values { let from = drop first values.old.items in
+        values.new.items ≡ take first values.old.items ++ (masked kinds.now (take (length kinds.now) from) ++ drop (length kinds.now) from) }
     ensures length { length values.new.items ≡ length values.old.items }
 {
     let (mut at, mut kind) = (first, kinds);

@@ -1,14 +1,12 @@
 -- The host's replies are of its functions' types.
-use Rattle.std.proofs.Common.{◌≡◌, ℕ, ◌%◌, ◌^◌, ◌<◌, ◌-◌, Bool, true, false, nat_lt, List, Option, None, Some, subst, sym, arith, lt-ltb, drop}
+use Rattle.std.proofs.Common.{◌≡◌, ℕ, ◌-◌, Bool, true, false, nat_lt, List, Option, None, Some, subst, sym, drop}
 use Rattle.std.specs.Prelude.{if◌then◌else◌}
 use Rattle.ante_wmem.specs.Linear.{LinearMemory}
 use Rattle.ante_wmem.specs.HostCalls.{Reply, Outcome, step_limit}
 use Rattle.ante_wtree.specs.declared.instructions.ValueKind.{ValueKind}
-use Rattle.ante_wtree.specs.declared.instructions.ValueKind.TheVariants.{I32, I64}
-use Rattle.ante_wtree.specs.declared.modules.FuncType.{FuncType}
 use Rattle.ante_wtree.specs.Intrinsics.{type_at}
-use Rattle.ante_wmeaning.specs.ValueTypes.{result_of}
-use Rattle.ante_wmeaning.specs.HostConditions.{IsReplyOf}
+use Rattle.ante_wtree.specs.Replies.{IsReplyOf}
+use Rattle.ante_wtree.proofs.Replies.{mask_fits}
 use Rattle.ante_wrun_tests.specs.declared.player.Answer.{Answer}
 use Rattle.ante_wrun_tests.specs.declared.player.Answer.TheVariants as answer
 use Rattle.ante_wrun_tests.specs.declared.player.Play.{Play}
@@ -16,13 +14,9 @@ use Rattle.ante_wrun_tests.specs.declared.player.Player.{Player}
 use Rattle.ante_wrun_tests.specs.declared.player.Note.TheVariants as note
 use Rattle.ante_wrun_tests.specs.Plays.{next, noted, number_at, with_number, given, ended, if_inside, shown, put, played, paid, outcome}
 
-below : (n m : ℕ) → 0 < m → nat_lt (n % m) m ≡ true
-below n m h = lt-ltb (n % m) m (omega (arith, h))
-
 given_typed : (params : List ValueKind) (r : Option ValueKind) (n : ℕ) (host : Player) (memory : LinearMemory) → IsReplyOf r (given (Some (params, r)) n host memory)
 given_typed params None n host memory = tt
-given_typed params (Some I32) n host memory = below n (2 ^ 32) (omega arith)
-given_typed params (Some I64) n host memory = below n (2 ^ 64) (omega arith)
+given_typed params (Some kind) n host memory = mask_fits kind n
 
 abbrev AlwaysTyped : Option ValueKind → (Player → LinearMemory → Reply Player ℕ) → Type 0
 AlwaysTyped r go = (host : Player) (memory : LinearMemory) → IsReplyOf r (go host memory)
@@ -59,7 +53,7 @@ paid_typed : (r : Option ValueKind) (play : Play) (function : ℕ) (params : Lis
 paid_typed r play function params host memory left e = if_typed r (nat_lt left play.pays) (record { reply = played play function host memory; left = left - play.pays }) left
     (put_typed r play.puts (shown play.shows (ended function play.answer)) (shown_typed r play.shows (ended function play.answer) (ended_typed r function params play.answer e)) host memory)
 
-pub typed : (kind : FuncType) (function : ℕ) (args : List ℕ) (host : Player) (memory : LinearMemory) (left : ℕ) →
-    type_at function ≡ Some (kind.params, result_of kind.results) → IsReplyOf (result_of kind.results) (outcome host function args memory left).reply
-typed kind function args host memory left e =
-    paid_typed (result_of kind.results) (next host.plays) function kind.params (noted (record host { plays = drop 1 host.plays }) (note.Call function args)) memory left e
+pub typed : (function : ℕ) (params : List ValueKind) (r : Option ValueKind) (args : List ℕ) (host : Player) (memory : LinearMemory) (left : ℕ) →
+    type_at function ≡ Some (params, r) → IsReplyOf r (outcome host function args memory left).reply
+typed function params r args host memory left e =
+    paid_typed r (next host.plays) function params (noted (record host { plays = drop 1 host.plays }) (note.Call function args)) memory left e

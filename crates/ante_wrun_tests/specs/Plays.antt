@@ -5,8 +5,8 @@ use Rattle.ante_wmem.specs.declared.host.HostAnswer.{HostAnswer}
 use Rattle.ante_wmem.specs.declared.host.HostAnswer.TheVariants as host_answer
 use Rattle.ante_wmem.specs.HostCalls.{Reply, Outcome, value, nothing, exit, refused, step_limit}
 use Rattle.ante_wtree.specs.declared.instructions.ValueKind.{ValueKind}
-use Rattle.ante_wtree.specs.declared.instructions.ValueKind.TheVariants.{I32, I64}
 use Rattle.ante_wtree.specs.Intrinsics.{type_at}
+use Rattle.ante_wtree.specs.Replies.{result_reply}
 use Rattle.ante_wrun_tests.specs.declared.player.Answer.{Answer}
 use Rattle.ante_wrun_tests.specs.declared.player.Answer.TheVariants as answer
 use Rattle.ante_wrun_tests.specs.declared.player.Play.{Play}
@@ -27,9 +27,7 @@ noted host n = record host { notes = host.notes ++ n ∷ [] }
 -- the number as a result of this kind, where there is one
 abbrev pub given : Option (List ValueKind × Option ValueKind) → ℕ → Player → LinearMemory → Reply Player ℕ
 given None n host memory = nothing host memory
-given (Some (params, None)) n host memory = nothing host memory
-given (Some (params, Some I32)) n host memory = value (n % 2 ^ 32) host memory
-given (Some (params, Some I64)) n host memory = value (n % 2 ^ 64) host memory
+given (Some (params, result)) n host memory = result_reply result n host memory
 
 abbrev pub ended : (function : ℕ) → Answer → Player → LinearMemory → Reply Player ℕ
 ended function (answer.Give n) host memory = given (type_at function) n host memory

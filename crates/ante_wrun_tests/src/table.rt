@@ -3,7 +3,7 @@ use crate::player::{Note, Player};
 use crate::words::{Row, read_row};
 use ante_base::AtLook;
 use ante_wdecode::decode;
-use ante_wrun::{Machine, imports_have_host_types};
+use ante_wrun::Machine;
 use ante_wvalid::{ValidModule, validate};
 use std::alloc::Global;
 use std::io;
@@ -60,7 +60,6 @@ impl Table {
         let Some(module) = &self.module else {
             return println!(rt; " no module");
         };
-        imports_have_host_types(module);
         let mut host = Player::new(alloc, row.plays);
         let mut stop = stop(row.look);
         let mut left = row.left;

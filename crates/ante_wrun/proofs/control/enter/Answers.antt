@@ -1,8 +1,8 @@
 use Rattle.std.proofs.Common.{ℕ, ◌-◌, [], ◌∷◌, ◌++◌, length, drop, reverse, replicate, ap, ◌∙◌, arith}
 use Rattle.ante_wtree.specs.Expressions.{expression_of}
+use Rattle.ante_wtree.specs.Types.{result_of}
 use Rattle.ante_wmeaning.specs.declared.ends.RunEnd.TheVariants as end
 use Rattle.ante_wrun.specs.declared.blocks.Frame.TheVariants as frame
-use Rattle.ante_wmeaning.specs.ValueTypes.{result_of}
 use Rattle.ante_wmeaning.specs.Execution.{arguments}
 use Rattle.ante_wrun.specs.Frames.{FrameValues}
 use Rattle.ante_wrun.specs.ThreadStates.{state_of, rest_of}

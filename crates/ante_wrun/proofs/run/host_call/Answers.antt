@@ -4,13 +4,13 @@ use Rattle.ante_wmeaning.specs.declared.ends.RunEnd.TheVariants as end
 use Rattle.ante_wmeaning.specs.PlainInstructions.{popped}
 use Rattle.ante_wmeaning.specs.Environment.{after_call}
 use Rattle.ante_wmeaning.specs.Configurations.{on_stack, stack_of}
-use Rattle.ante_wmeaning.specs.ValueTypes.{masked}
 use Rattle.ante_wmeaning.specs.Execution.{and_then, arguments}
 use Rattle.ante_wrun.specs.ThreadStates.{state_of, rest_of, under}
 use Rattle.ante_wmeaning.specs.RunEnds.{Ends, Lacking}
 use Rattle.ante_wrun.proofs.Calls.{ended}
 use Rattle.ante_wrun.proofs.Turning.{replied, unsupplied, in_host}
 use Rattle.ante_wtree.specs.declared.instructions.ValueKind.{ValueKind}
+use Rattle.ante_wtree.specs.Types.{masked}
 use Rattle.ante_wrun.proofs.run.host_call.Goals as goal
 
 lent : (params kinds : List ValueKind) (count : ℕ) (old new args : List ℕ) → kinds ≡ params → count ≡ length params → arguments (length kinds) new ≡ masked kinds (arguments (length kinds) old) → args ≡ arguments count new →

@@ -1,9 +1,9 @@
 use Rattle.std.proofs.Common.{◌≡◌, ◌<◌, Some, [], ◌∷◌, length, refl, sym, subst, ◌∙◌, arith}
+use Rattle.ante_wtree.specs.Types.{masked}
 use Rattle.ante_wmeaning.specs.declared.ends.RunEnd.TheVariants as end
 use Rattle.ante_wmeaning.specs.PlainInstructions.{popped}
 use Rattle.ante_wmeaning.specs.Environment.{after_call, undisturbed}
 use Rattle.ante_wmeaning.specs.Configurations.{on_stack}
-use Rattle.ante_wmeaning.specs.ValueTypes.{masked}
 use Rattle.ante_wmeaning.specs.Execution.{arguments}
 use Rattle.ante_wrun.specs.ThreadStates.{state_of, whole, going, rest_of}
 use Rattle.ante_wrun.specs.Control.{program_of, Leads}

@@ -1,12 +1,13 @@
 use Rattle.std.proofs.Common.{sym, subst}
 use Rattle.ante_wtree.specs.Trees.{tree_of}
 use Rattle.ante_wmeaning.specs.Environment.{Environment, Begins, past, ByEvents}
-use Rattle.ante_wmeaning.specs.HostConditions.{MayCall, AnswersTyped}
+use Rattle.ante_wmeaning.specs.HostConditions.{MayCall, ImportsTyped}
 use Rattle.ante_wmeaning.specs.Instantiation.{program_in}
 use Rattle.ante_wmeaning.specs.Invocation.{run_of}
 use Rattle.ante_wmeaning.specs.RunEnds.{RunAnswers}
 use Rattle.ante_wmeaning.proofs.Answered.{counted, comes, cuts, uncut, limit, undisturbed_ends}
 use Rattle.ante_wmeaning.proofs.Falls.{run_lowers}
+use Rattle.ante_wmeaning.proofs.GivenTypes.{imports_typed}
 use Rattle.ante_wmeaning.proofs.Looking.{none_yet, run_quiet}
 use Rattle.ante_wrun.proofs.machine.Machine.run.Goals as goal
 
@@ -14,7 +15,8 @@ pub run_module-requires-clause-allowed : goal.run_module-requires-clause-allowed
 run_module-requires-clause-allowed g c = subst (λ m. MayCall g.H.Host.allowed (program_in (tree_of m)) c.args.host.now c.args.left.now) (sym c.module.ensures.module) c.requires.allowed
 
 pub run_module-requires-clause-answers : goal.run_module-requires-clause-answers
-run_module-requires-clause-answers g c = subst (λ m. AnswersTyped g.H.Host.allowed g.H.Host.meaning (program_in (tree_of m))) (sym c.module.ensures.module) c.requires.answers
+run_module-requires-clause-answers g c = subst (λ m. ImportsTyped g.H.Host.allowed g.H.Host.meaning (program_in (tree_of m))) (sym c.module.ensures.module)
+    (imports_typed g.H.Host.allowed g.H.Host.meaning (program_in (tree_of c.args.module.now)) c.imports_have_host_types.ensures c.requires.answers)
 
 pub returns-clause-ends : goal.returns-clause-ends
 returns-clause-ends g c =

@@ -3,7 +3,7 @@ use Rattle.ante_wrun.proofs.Regions.{view, unwound_view}
 use Rattle.ante_wrun.proofs.values.ValueStack.unwind.Goals as goal
 use Rattle.ante_wtree.specs.declared.instructions.ValueKind.{ValueKind}
 use Rattle.std.specs.Option.{is_none}
-use Rattle.ante_wmeaning.specs.ValueTypes.{arity}
+use Rattle.ante_wmeaning.specs.Arities.{arity}
 use Rattle.ante_wmeaning.specs.Execution.{unwound}
 
 some_kind : (kind : Option ValueKind) (P : Option ValueKind → Type 0) → is_none kind ≡ false → ((k : ValueKind) → P (Some k)) → P kind
