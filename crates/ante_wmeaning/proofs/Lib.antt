@@ -11,3 +11,4 @@ pub mod Programs
 pub mod Safe
 pub mod GivenTypes
 pub mod Answered
+pub mod Staying

@@ -1,10 +1,11 @@
 -- What the parts of one turn of the machine's loop answer.
-use Rattle.std.specs.Prelude.{◌≡◌, ℕ, suc, true, false, Bool, List, Option, None, Some, Result, Ok, Err}
+use Rattle.std.specs.Prelude.{◌≡◌, ℕ, suc, length, true, false, Bool, List, Option, None, Some, Result, Ok, Err}
 use Rattle.std.specs.declared.alloc.AllocError.{AllocError}
 use Rattle.ante_wmem.specs.Linear.{LinearMemory}
 use Rattle.ante_wmem.specs.HostCalls.{Reply, value, nothing, exit, refused, step_limit, HostMeaning}
 use Rattle.ante_wmem.specs.declared.host.HostAnswer.{HostAnswer}
-use Rattle.ante_wtree.specs.declared.instructions.ValueKind.{ValueKind}
+use Rattle.ante_wtree.specs.declared.modules.FuncType.{FuncType}
+use Rattle.ante_wtree.specs.Types.{masked}
 use Rattle.ante_wmeaning.specs.declared.ends.RunEnd.{RunEnd}
 use Rattle.ante_wrun.specs.declared.thread.Thread.{Thread}
 use Rattle.ante_wrun.specs.declared.run.Paid.{Paid}
@@ -16,8 +17,8 @@ use Rattle.ante_wrun.specs.declared.run.Progress.TheVariants as progress
 use Rattle.ante_wmeaning.specs.Environment.{Environment, after_call, Wanting}
 use Rattle.ante_wmeaning.specs.RunEnds.{Remainder, Ends, Lacking}
 use Rattle.ante_wmeaning.specs.Configurations.{Program, Outcome, Normal}
-use Rattle.ante_wmeaning.specs.Arities.{gives_none}
-use Rattle.ante_wmeaning.specs.Execution.{due}
+use Rattle.ante_wmeaning.specs.PlainInstructions.{popped}
+use Rattle.ante_wmeaning.specs.Execution.{due, arguments}
 use Rattle.ante_wrun.specs.ThreadStates.{state_of, going}
 
 -- a look where one is due

@@ -1,1 +1,2 @@
 mod Typed
+mod Twice

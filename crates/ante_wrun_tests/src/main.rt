@@ -3,11 +3,13 @@
 //!
 //! In a table `module` has the bytes of the module for the runs below it, with its text before it behind `#`. `run` has the
 //! three arguments and the steps, then, if any, the look that asks to stop and its moment, and behind each `|` what the
-//! host does at a call. All other lines are headings, and are printed as they are.
+//! host does at a call. `twice` has the steps of two runs over a host that counts its calls in a number that it is lent, and
+//! their ends and the number are printed. All other lines are headings, and are printed as they are.
 //!
 //! What is to be printed was computed apart from the program, and compared with another interpreter.
 #![tactic(auto)]
 
+mod counting;
 mod player;
 mod table;
 mod words;

@@ -1,4 +1,5 @@
 //! A table's lines: modules, and runs of the module before them.
+use crate::counting::run_twice;
 use crate::player::{Note, Player};
 use crate::words::{Row, read_row};
 use ante_base::AtLook;
@@ -74,6 +75,17 @@ impl Table {
         print_notes(rt, host.notes.as_slice())
     }
 
+    fn run_twice(&self, rt: &impl Print, alloc: Global, steps: u64) -> io::Result<()> {
+        let Some(module) = &self.module else {
+            return println!(rt; " no module");
+        };
+        let mut calls = 0_u64;
+        match run_twice(alloc, module, &mut calls, steps) {
+            Ok((first, second)) => println!(rt; " {first:?}, {second:?}: {calls} calls"),
+            Err(_) => println!(rt; " out of memory"),
+        }
+    }
+
     /// Does what the line says and prints what comes of it.
     pub fn print(&mut self, rt: &impl Print, alloc: Global, line: &str) -> io::Result<()> {
         if line.starts_with('#') {
@@ -86,6 +98,11 @@ impl Table {
         if let Some(text) = line.strip_prefix("run ") {
             print!(rt; "{line} =>")?;
             return self.run(rt, alloc, read_row(alloc, text)?);
+        }
+        if let Some(text) = line.strip_prefix("twice ") {
+            print!(rt; "{line} =>")?;
+            let steps = text.parse().map_err(|_| ErrorKind::InvalidData)?;
+            return self.run_twice(rt, alloc, steps);
         }
         println!(rt; "{line}")
     }
