@@ -5,13 +5,13 @@ use denote.Bor.{Bor}
 use Rattle.ante_wmem.specs.HostCalls.{HostMeaning}
 use Rattle.ante_wtree.specs.declared.instructions.Instr.{Instr}
 use Rattle.ante_wtree.specs.Expressions.{expression_of}
-use Rattle.ante_wrun.specs.declared.data.Data.{Data}
+use Rattle.ante_wvalues.specs.declared.data.Data.{Data}
 use Rattle.ante_wrun.specs.declared.blocks.Frame.{Frame}
 use Rattle.ante_wrun.specs.declared.blocks.Frame.TheVariants as frame
 use Rattle.ante_wmeaning.specs.Environment.{Environment}
 use Rattle.ante_wmeaning.specs.Configurations.{Program, State, Outcome, Branch}
 use Rattle.ante_wmeaning.specs.Execution.{and_then, turns, keep, only_if, does, call}
-use Rattle.ante_wrun.specs.Frames.{FrameValues}
+use Rattle.ante_wvalues.specs.FrameValues.{FrameValues}
 use Rattle.ante_wrun.specs.ThreadStates as machine
 use Rattle.ante_wrun.specs.ThreadStates.{state_of, under}
 use Rattle.ante_wmeaning.proofs.Falls.{HostFalls, does_lowers, call_lowers, turns_open}

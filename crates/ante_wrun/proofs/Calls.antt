@@ -15,7 +15,7 @@ use Rattle.ante_wtree.specs.Expressions.{Expression, expression_of}
 use Rattle.ante_wtree.specs.Types.{result_of}
 use Rattle.ante_wmeaning.specs.declared.ends.RunEnd.{RunEnd}
 use Rattle.ante_wmeaning.specs.declared.ends.RunEnd.TheVariants as end
-use Rattle.ante_wrun.specs.declared.data.Data.{Data}
+use Rattle.ante_wvalues.specs.declared.data.Data.{Data}
 use Rattle.ante_wrun.specs.declared.blocks.Frame.{Frame}
 use Rattle.ante_wrun.specs.declared.blocks.Frame.TheVariants as frame
 use Rattle.ante_wrun.specs.declared.control.Function.{Function}
@@ -25,7 +25,8 @@ use Rattle.ante_wmeaning.specs.PlainInstructions.{popped}
 use Rattle.ante_wmeaning.specs.Environment.{Environment}
 use Rattle.ante_wmeaning.specs.Configurations.{Program, FunctionInstance, State, Outcome, Ended, on_stack}
 use Rattle.ante_wmeaning.specs.Execution.{and_then, of_function, chosen, of_block, arguments, pay_pages, grow_if, grow, grown_by, does, call}
-use Rattle.ante_wrun.specs.Frames.{FrameValues, InCall, unwind}
+use Rattle.ante_wvalues.specs.FrameValues.{FrameValues}
+use Rattle.ante_wrun.specs.Frames.{InCall, unwind}
 use Rattle.ante_wrun.specs.ThreadStates.{opens, under}
 use Rattle.ante_wmeaning.specs.RunEnds.{Stops}
 use Rattle.ante_wrun.specs.Control.{instance_of, own_at, Takes, NotHostCall, GivenAt}

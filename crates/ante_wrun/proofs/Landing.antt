@@ -7,7 +7,7 @@ use Rattle.ante_wmem.specs.HostCalls.{HostMeaning}
 use Rattle.ante_wtree.specs.declared.instructions.Instr.{Instr}
 use Rattle.ante_wtree.specs.declared.instructions.ValueKind.{ValueKind}
 use Rattle.ante_wtree.specs.Expressions.{Expression, Br, BrIf, BrTable, expression_of}
-use Rattle.ante_wrun.specs.declared.data.Data.{Data}
+use Rattle.ante_wvalues.specs.declared.data.Data.{Data}
 use Rattle.ante_wrun.specs.declared.blocks.Frame.{Frame}
 use Rattle.ante_wrun.specs.declared.blocks.Frame.TheVariants as frame
 use Rattle.ante_wmeaning.specs.Environment.{Environment}
@@ -15,7 +15,7 @@ use Rattle.ante_wmeaning.specs.Configurations.{Program, State, Outcome, Normal, 
 use Rattle.ante_wmeaning.specs.Arities.{arity}
 use Rattle.ante_wmeaning.specs.Execution.{keep, unwound, only_if, and_then, jump_unless, taking, acts, does, call}
 use Rattle.ante_wmeaning.specs.PlainInstructions.{low, top, popped}
-use Rattle.ante_wrun.specs.Frames.{FrameValues}
+use Rattle.ante_wvalues.specs.FrameValues.{FrameValues}
 use Rattle.ante_wrun.specs.ThreadStates.{state_of, under, goes, Reaches, Returns, Nested}
 use Rattle.ante_wmeaning.specs.RunEnds.{NotStuck}
 use Rattle.ante_wrun.specs.Stretches.{IsOwnLabel}

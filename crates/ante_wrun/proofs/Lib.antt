@@ -1,11 +1,7 @@
-pub mod Regions
-pub mod Signs
 pub mod Bodies
 pub mod Calls
 pub mod Turning
 pub mod Rules
-pub mod Plains
-pub mod Masks
 pub mod Making
 pub mod Whole
 pub mod Assured

@@ -12,21 +12,22 @@ use Rattle.ante_wtree.specs.Expressions.{expression_of, cons}
 use Rattle.ante_wtree.specs.Limits.{round_steps}
 use Rattle.ante_wmeaning.specs.declared.ends.TrapKind.{TrapKind}
 use Rattle.ante_wmeaning.specs.declared.ends.RunEnd.TheVariants as end
-use Rattle.ante_wrun.specs.declared.plain.Tried.TheVariants as tried
+use Rattle.ante_wvalues.specs.declared.instructions.Tried.TheVariants as tried
 use Rattle.ante_wrun.specs.declared.blocks.Frame.{Frame}
 use Rattle.ante_wrun.specs.declared.thread.Thread.{Thread}
 use Rattle.ante_wmeaning.specs.PlainInstructions.{Values, effect}
 use Rattle.ante_wmeaning.specs.Environment.{Environment, after_item}
 use Rattle.ante_wmeaning.specs.Configurations.{Program, State, Outcome}
 use Rattle.ante_wmeaning.specs.Execution.{of_effect, seen, due, round, acts, does, call}
-use Rattle.ante_wrun.specs.Frames.{FrameValues}
-use Rattle.ante_wrun.specs.ThreadStates.{goes, values_in, state_of, under, going, TriesPlain, Ready, plain_of}
+use Rattle.ante_wvalues.specs.FrameValues.{FrameValues}
+use Rattle.ante_wvalues.specs.PlainSteps.{values_in, TriesPlain, Ready, plain_of}
+use Rattle.ante_wrun.specs.ThreadStates.{goes, state_of, under, going}
 use Rattle.ante_wmeaning.specs.RunEnds.{Stops}
 use Rattle.ante_wmeaning.specs.Environment.{Event, Supplied, Begins, past, looks_of, ByEvents, Calm}
 use Rattle.ante_wmeaning.specs.RunEnds.{NotStuck, Sound}
 use Rattle.ante_wrun.specs.Stretches.{stepping, WithoutLooks, CodeLeads, StretchLeads}
 use Rattle.ante_wrun.proofs.Calls.{ended}
-use Rattle.ante_wrun.proofs.Plains.{plain_put, was_done, was_trapped, effect_of, same_values}
+use Rattle.ante_wvalues.proofs.Plains.{plain_put, was_done, was_trapped, effect_of, same_values}
 use Rattle.ante_wrun.proofs.Rules.{has_operands, has_place, inner}
 use Rattle.ante_wrun.proofs.Turning.{starts_put, pay_paid, begins-front, begins-back, past-append, more_events}
 

@@ -1,26 +1,24 @@
 -- Whole runs, from what their calls answer.
-use Rattle.std.proofs.Common.{◌≡◌, ℕ, suc, ◌+◌, ◌-◌, true, false, List, [], ◌∷◌, length, Option, None, Result, Ok, Err, refl, ap, sym, subst, ◌∙◌, arith}
-use Rattle.ante_base.specs.Stops.{Looks, Rises}
-use Rattle.ante_base.specs.LookCounts.{Looks-rise}
-use Rattle.std.specs.Prelude.{reverse, IfOk}
+use Rattle.std.proofs.Common.{◌≡◌, ℕ, true, false, List, [], Option, Result, Err, refl, ap, sym, subst, ◌∙◌}
+use Rattle.std.specs.Prelude.{reverse}
 use Rattle.std.specs.declared.alloc.AllocError.{AllocError}
 use Rattle.ante_wmem.specs.Linear.{LinearMemory}
 use Rattle.ante_wmem.specs.HostCalls.{HostMeaning}
 use Rattle.ante_wmem.specs.declared.host.HostAnswer.{HostAnswer}
 use Rattle.ante_wtree.specs.Trees.{Tree}
-use Rattle.ante_wrun.specs.declared.data.Data.{Data}
+use Rattle.ante_wvalues.specs.declared.data.Data.{Data}
 use Rattle.ante_wmeaning.specs.declared.ends.TrapKind.TheVariants as trap
 use Rattle.ante_wmeaning.specs.declared.ends.RunEnd.{RunEnd}
 use Rattle.ante_wmeaning.specs.declared.ends.RunEnd.TheVariants as end
 use Rattle.ante_wmeaning.specs.PlainInstructions.{Values}
 use Rattle.ante_wrun.specs.declared.machine.Called.{Called}
 use Rattle.ante_wrun.specs.InstanceAndCalls.{CallLeads}
-use Rattle.ante_wrun.specs.Frames.{FrameValues}
-use Rattle.ante_wmeaning.specs.Environment.{Environment, after_look, after_item, after_call}
+use Rattle.ante_wvalues.specs.FrameValues.{FrameValues}
+use Rattle.ante_wmeaning.specs.Environment.{Environment, after_item}
 use Rattle.ante_wmeaning.specs.Configurations.{Program, State, Outcome, Normal, Branch, Returned, Ended, Lacks, InHost, Stuck}
 use Rattle.ante_wmeaning.specs.Execution.{supplied, and_then, invoked}
 use Rattle.ante_wrun.specs.ThreadStates.{state_of}
-use Rattle.ante_wmeaning.specs.Environment.{Event, Looked, Supplied, CallSupplied, looks_of, Begins, past, ByEvents, Wanting}
+use Rattle.ante_wmeaning.specs.Environment.{Begins, past, ByEvents, Wanting}
 use Rattle.ante_wmeaning.specs.RunEnds.{Ends, Lacking}
 use Rattle.ante_wtree.specs.Limits.{most_frames}
 use Rattle.ante_wmeaning.specs.Invocation.{called_with, outset_of, where_fit, both_run, run_of}

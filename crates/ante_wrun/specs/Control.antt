@@ -3,7 +3,6 @@ use Rattle.std.specs.Prelude.{◌≡◌, ℕ, zero, suc, ◌<◌, ◌≤◌, map
 use Rattle.ante_wmem.specs.HostCalls.{HostMeaning}
 use Rattle.ante_wtree.specs.declared.modules.FuncType.{FuncType}
 use Rattle.ante_wtree.specs.Expressions.{Expression, expression_of}
-use Rattle.ante_wmeaning.specs.declared.ends.RunEnd.{RunEnd}
 use Rattle.ante_wmeaning.specs.declared.ends.RunEnd.TheVariants as end
 use Rattle.ante_wmeaning.specs.declared.ends.TrapKind.{TrapKind}
 use Rattle.ante_wrun.specs.declared.thread.Thread.{Thread}
@@ -14,7 +13,7 @@ use Rattle.ante_wrun.specs.declared.control.Next.{Next}
 use Rattle.ante_wrun.specs.declared.control.Next.TheVariants as next
 use Rattle.ante_wmeaning.specs.PlainInstructions.{popped}
 use Rattle.ante_wmeaning.specs.Environment.{Environment}
-use Rattle.ante_wmeaning.specs.Configurations.{FunctionInstance, Own, Given, Missing, Program, State, Outcome, Ended, on_stack}
+use Rattle.ante_wmeaning.specs.Configurations.{FunctionInstance, Own, Given, Missing, Program, State, Outcome, on_stack}
 use Rattle.ante_wmeaning.specs.Execution.{call_host, no_frame, call_own, does, call}
 use Rattle.ante_wmeaning.specs.RunEnds.{Stops}
 use Rattle.ante_wmeaning.specs.HostConditions.{IsGiven}

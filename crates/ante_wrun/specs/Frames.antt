@@ -1,16 +1,10 @@
--- What the machine holds, and what is still to be done in its open frames.
+-- What is still to be done in the open frames.
 use Rattle.std.specs.Prelude.{ℕ, suc, List, [], ◌∷◌, Option}
 use Rattle.ante_wmem.specs.HostCalls.{HostMeaning}
 use Rattle.ante_wtree.specs.declared.instructions.ValueKind.{ValueKind}
 use Rattle.ante_wtree.specs.Expressions.{Expression}
 use Rattle.ante_wmeaning.specs.Configurations.{Program, Outcome}
 use Rattle.ante_wmeaning.specs.Execution.{and_then, of_block, of_loop, of_call, settled, turns, does, call}
-
--- The values of all frames: the locals and operands of the frames below as they lie, then this frame's.
-pub record FrameValues : Type 0 where
-  pub below : List ℕ
-  pub locals : List ℕ
-  pub stack : List ℕ
 
 -- A body that isn't ended, with what is to be done after it. A call's has the caller's locals, operands and free frames.
 pub data Open : Type 0 where

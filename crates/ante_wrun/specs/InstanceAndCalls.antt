@@ -1,8 +1,6 @@
 -- What the parts of a whole run answer.
-use Rattle.std.specs.Prelude.{◌≡◌, ℕ, true, false, List, Option, None, Some, Result, Ok, Err}
+use Rattle.std.specs.Prelude.{◌≡◌, ℕ, true, false, Option, None, Some, Result, Ok, Err}
 use Rattle.std.specs.declared.alloc.AllocError.{AllocError}
-use Rattle.ante_wmem.specs.Linear.{LinearMemory}
-use Rattle.ante_wmem.specs.declared.host.HostAnswer.{HostAnswer}
 use Rattle.ante_wtree.specs.Trees.{Tree}
 use Rattle.ante_wmeaning.specs.declared.ends.RunEnd.TheVariants as end
 use Rattle.ante_wrun.specs.declared.instance.Instance.{Instance}
@@ -10,7 +8,8 @@ use Rattle.ante_wrun.specs.declared.machine.Called.{Called}
 use Rattle.ante_wrun.specs.declared.machine.Called.TheVariants as called
 use Rattle.ante_wmeaning.specs.Environment.{Environment}
 use Rattle.ante_wmeaning.specs.Configurations.{Outcome, Normal}
-use Rattle.ante_wrun.specs.ThreadStates.{values_of, state_of}
+use Rattle.ante_wvalues.specs.PlainSteps.{values_of}
+use Rattle.ante_wrun.specs.ThreadStates.{state_of}
 use Rattle.ante_wrun.specs.Control.{program_of}
 use Rattle.ante_wmeaning.specs.Environment.{Wanting}
 use Rattle.ante_wmeaning.specs.RunEnds.{Remainder, Ends, Lacking}

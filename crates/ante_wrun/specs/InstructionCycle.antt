@@ -1,9 +1,7 @@
 -- What the parts of one turn of the machine's loop answer.
 use Rattle.std.specs.Prelude.{◌≡◌, ℕ, suc, length, true, false, Bool, List, Option, None, Some, Result, Ok, Err}
 use Rattle.std.specs.declared.alloc.AllocError.{AllocError}
-use Rattle.ante_wmem.specs.Linear.{LinearMemory}
-use Rattle.ante_wmem.specs.HostCalls.{Reply, value, nothing, exit, refused, step_limit, HostMeaning}
-use Rattle.ante_wmem.specs.declared.host.HostAnswer.{HostAnswer}
+use Rattle.ante_wmem.specs.HostCalls.{HostMeaning}
 use Rattle.ante_wtree.specs.declared.modules.FuncType.{FuncType}
 use Rattle.ante_wtree.specs.Types.{masked}
 use Rattle.ante_wmeaning.specs.declared.ends.RunEnd.{RunEnd}

@@ -1,5 +1,5 @@
--- What a run means is in `ante_wmeaning`. Here is what the machine does, and how that is the meaning: read Frames first,
--- then ThreadStates.
+-- What a run means is in `ante_wmeaning`, and what plain instructions make of the values in `ante_wvalues`. Here is what the machine
+-- does, and how that is the meaning: read Frames first, then ThreadStates.
 pub mod Frames
 pub mod ThreadStates
 pub mod Control

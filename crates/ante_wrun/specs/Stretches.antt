@@ -5,7 +5,7 @@ use Rattle.ante_wmem.specs.Linear.{LinearMemory}
 use Rattle.ante_wmem.specs.HostCalls.{HostMeaning}
 use Rattle.ante_wtree.specs.declared.instructions.Instr.{Instr}
 use Rattle.ante_wtree.specs.Expressions.{Expression}
-use Rattle.ante_wrun.specs.declared.data.Data.{Data}
+use Rattle.ante_wvalues.specs.declared.data.Data.{Data}
 use Rattle.ante_wmeaning.specs.declared.ends.TrapKind.{TrapKind}
 use Rattle.ante_wmeaning.specs.declared.ends.RunEnd.TheVariants as end
 use Rattle.ante_wrun.specs.declared.blocks.Frame.{Frame}
@@ -16,8 +16,9 @@ use Rattle.ante_wrun.specs.declared.stretch.Moved.TheVariants as moved
 use Rattle.ante_wmeaning.specs.Environment.{Environment, Event, Supplied, Begins, past}
 use Rattle.ante_wmeaning.specs.Configurations.{Program, State, Outcome}
 use Rattle.ante_wmeaning.specs.Execution.{acts, call}
-use Rattle.ante_wrun.specs.Frames.{FrameValues}
-use Rattle.ante_wrun.specs.ThreadStates.{values_in, state_of, under, goes, going}
+use Rattle.ante_wvalues.specs.FrameValues.{FrameValues}
+use Rattle.ante_wvalues.specs.PlainSteps.{values_in}
+use Rattle.ante_wrun.specs.ThreadStates.{state_of, under, goes, going}
 use Rattle.ante_wmeaning.specs.RunEnds.{Stops, NotStuck}
 
 -- the state of these parts, where the instruction executed last took one step

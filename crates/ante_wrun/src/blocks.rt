@@ -6,11 +6,10 @@ ghost use Rattle.ante_wmeaning.specs.Configurations.{Program, Branch};
 ghost use Rattle.ante_wrun.specs.ThreadStates.{state_of, under, goes, Reaches, Nested};
 ghost use Rattle.ante_wrun.specs.Stretches.{SameFrom, IsInner, IsOwnLabel, HasRule, Within};
 
-use crate::data::{Data, low};
-use crate::values::ValueStack;
 use ante_stack::Stack;
 use ante_wmem::Host;
 use ante_wtree::{Instr, Shape, ValueKind, shape_of};
+use ante_wvalues::{Data, ValueStack, low};
 use std::alloc::Global;
 
 /// A body that isn't ended, with what is to be done after it.

@@ -10,12 +10,11 @@ ghost use Rattle.ante_wrun.specs.Control.{instance_of, program_of, own_at, Leads
 ghost use Rattle.ante_wmeaning.specs.RunEnds.{NotStuck};
 
 use crate::blocks::{Frame, begin_body, label};
-use crate::data::low;
-use crate::plain::{Tried, plain_with_room};
 use crate::thread::{Thread, branch, leave};
 use ante_wmeaning::TrapKind;
 use ante_wmem::Host;
 use ante_wtree::{FuncType, Instr, Shape, result_of, same_type, shape_of};
+use ante_wvalues::{Tried, low, plain_with_room};
 use std::alloc::{AllocError, Global};
 
 /// A function of the module: one of its own, with the number of its locals beside the parameters, or one of the host's.
@@ -54,8 +53,16 @@ fn is_of(function: Function<'_>, wanted: &FuncType) -> bool
     ensures { result ≡ is_of (instance_of function.entry) wanted.now }
 {
     match function {
-        Function::Own { kind, .. } => same_type(kind, wanted.params.as_slice(), wanted.results.as_slice()),
-        Function::Host { kind, .. } => same_type(kind, wanted.params.as_slice(), wanted.results.as_slice()),
+        Function::Own { kind, .. } => same_type(
+            kind,
+            wanted.params.as_slice(),
+            wanted.results.as_slice(),
+        ),
+        Function::Host { kind, .. } => same_type(
+            kind,
+            wanted.params.as_slice(),
+            wanted.results.as_slice(),
+        ),
     }
 }
 

@@ -5,7 +5,7 @@ ghost use Rattle.std.specs.Str.{bytes_eq};
 ghost use Rattle.ante_wmem.specs.Limits.{most_memory_pages};
 ghost use Rattle.ante_wtree.specs.Trees.{body_of, tree_of};
 ghost use Rattle.ante_wvalid.specs.Modules.{IsValid, OutOfBounds};
-ghost use Rattle.ante_wrun.specs.ThreadStates.{values_of};
+ghost use Rattle.ante_wvalues.specs.PlainSteps.{values_of};
 ghost use Rattle.ante_wrun.specs.Control.{instance_of, program_of};
 ghost use Rattle.ante_wmeaning.specs.Instantiation.{host_place, given_as, given_functions, own, own_functions, program_in};
 ghost use Rattle.ante_wmeaning.specs.Instantiation.{constant, offset_of, empty_table, most_pages, empty_memory, first_values};
@@ -14,14 +14,13 @@ ghost use Rattle.ante_wrun.specs.GrantedByValidity.{Links, IsLiteral};
 ghost use Rattle.ante_wrun.specs.InstanceAndCalls.{IsInstance};
 
 use crate::control::{Function, Functions};
-use crate::data::{Data, low};
-use crate::values::ValueStack;
 use ante_wmem::Memory;
 use ante_wmem::limits::{MOST_MEMORY_PAGES, PAGE_SIZE};
 use ante_wtree::{
     Code, Element, Export, FuncType, Global, Import, ImportKind, Init, Limits, Module, Segment,
     host_number,
 };
+use ante_wvalues::{Data, ValueStack, low};
 use std::alloc::{AllocError, Global as Heap};
 
 /// An instance of which no function was called.

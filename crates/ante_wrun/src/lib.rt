@@ -3,14 +3,11 @@
 
 mod blocks;
 mod control;
-mod data;
 mod instance;
 mod machine;
-mod plain;
 mod run;
 mod stretch;
 mod thread;
-mod values;
 
 pub use ante_wmeaning::{RunEnd, TrapKind, imports_have_host_types};
 pub use ante_wmem::{Host, HostAnswer, HostFn};

@@ -14,11 +14,9 @@ ghost use Rattle.ante_wrun.specs.Control.{program_of};
 ghost use Rattle.ante_wrun.specs.InstanceAndCalls.{OnReturn, CallLeads};
 
 use crate::control::Functions;
-use crate::data::Data;
 use crate::instance::{Instance, apply_index, instantiate};
 use crate::run::invoke;
 use crate::thread::Thread;
-use crate::values::ValueStack;
 use ante_base::Stop;
 use ante_stack::Stack;
 use ante_wmeaning::{RunEnd, TrapKind, imports_have_host_types};
@@ -26,6 +24,7 @@ use ante_wmem::Host;
 use ante_wtree::Module;
 use ante_wtree::limits::most_frames;
 use ante_wvalid::ValidModule;
+use ante_wvalues::{Data, ValueStack};
 use std::alloc::{AllocError, Global};
 
 /// What a call from outside came to.

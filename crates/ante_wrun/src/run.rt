@@ -49,7 +49,11 @@ pub(crate) enum Progress<R> {
 fn round(left: u64) -> u64
     ensures { result ≡ round left }
 {
-    if left == 0 { 0 } else { (left - 1) / ROUND_STEPS + 1 }
+    if left == 0 {
+        0
+    } else {
+        (left - 1) / ROUND_STEPS + 1
+    }
 }
 
 #[inline(always)]

@@ -8,14 +8,13 @@ ghost use Rattle.ante_wrun.specs.ThreadStates.{going_over, IsNested, Nested};
 ghost use Rattle.ante_wrun.specs.Stretches.{stepping, going_with, ThroughoutQuiet, MoveLeads, CodeLeads, StretchLeads};
 
 use crate::blocks::{Frame, after_blocks, control_within};
-use crate::plain::{Tried, plain};
 use crate::thread::Thread;
-use crate::values::ValueStack;
 use ante_stack::Stack;
 use ante_wmeaning::TrapKind;
 use ante_wmem::{Host, Memory};
 use ante_wtree::Instr;
 use ante_wtree::limits::ROUND_STEPS;
+use ante_wvalues::{Tried, ValueStack, plain};
 use std::alloc::Global;
 use std::mem;
 

@@ -6,10 +6,10 @@ ghost use Rattle.ante_wrun.specs.ThreadStates.{state_of, under, whole, going_ove
 ghost use Rattle.ante_wmeaning.specs.RunEnds.{NotStuck};
 
 use crate::blocks::{Frame, inner_label, land};
-use crate::data::Data;
 use ante_stack::Stack;
 use ante_wmem::Host;
 use ante_wtree::{Instr, ValueKind};
+use ante_wvalues::Data;
 
 /// What is left of the innermost body, and the bodies round it.
 #[derive(Drop)]

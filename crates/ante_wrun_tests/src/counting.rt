@@ -95,8 +95,9 @@ pub fn run_twice<C: Counter>(
     counter: &mut C,
     steps: u64,
 ) -> Result<(RunEnd<u32>, RunEnd<u32>), AllocError>
-    ensures { IfOk result (λ ends. (between : ℕ) ×
-        Leads (tree_of module.now) steps (C.count counter.old) ends.0 between × Leads (tree_of module.now) steps between ends.1 (C.count counter.new)) }
+    ensures { IfOk result (λ ends. (between : ℕ)
+        × Leads (tree_of module.now) steps (C.count counter.old) ends.0 between
+        × Leads (tree_of module.now) steps between ends.1 (C.count counter.new)) }
 {
     let mut host = Counting { counter };
     let first = run_once(alloc, module, &mut host, steps);

@@ -6,6 +6,7 @@ use crate::instructions::ValueKind;
 use crate::modules::FuncType;
 
 /// The first of the results. Valid types have one at most.
+#[inline]
 pub fn result_of(kinds: &[ValueKind]) -> Option<ValueKind>
     ensures { result ≡ result_of kinds.now }
 {
@@ -13,6 +14,7 @@ pub fn result_of(kinds: &[ValueKind]) -> Option<ValueKind>
 }
 
 /// Whether these kinds are the same, one by one.
+#[inline]
 pub fn same_kinds(one: &[ValueKind], two: &[ValueKind]) -> bool
     ensures test { result ≡ same_kinds one.now two.now }
     ensures equal { IsTrue result ↔ (one.now ≡ two.now) }
@@ -21,6 +23,7 @@ pub fn same_kinds(one: &[ValueKind], two: &[ValueKind]) -> bool
 }
 
 /// Whether a type has these parameters and these results.
+#[inline]
 pub fn same_type(found: &FuncType, params: &[ValueKind], results: &[ValueKind]) -> bool
     ensures test { result ≡ (same_kinds found.now.params params.now && same_kinds found.now.results results.now) }
     ensures equal { IsTrue result ↔ ((found.now.params ≡ params.now) × (found.now.results ≡ results.now)) }

@@ -3,11 +3,12 @@ use Rattle.std.specs.Prelude.{◌==◌, slice_index_or}
 use Rattle.std.proofs.lemmas.Bool.{eqb-true}
 use Rattle.ante_wtree.specs.Expressions.{Over, expression_of}
 use Rattle.ante_wmeaning.specs.declared.ends.RunEnd.TheVariants as end
-use Rattle.ante_wrun.specs.declared.plain.Tried.TheVariants as tried
+use Rattle.ante_wvalues.specs.declared.instructions.Tried.TheVariants as tried
 use Rattle.ante_wmeaning.specs.PlainInstructions.{low, top, popped}
 use Rattle.ante_wmeaning.specs.Configurations.{Branch, on_stack}
 use Rattle.ante_wmeaning.specs.Execution.{and_then, of_effect, jump_unless, element, acts, call}
-use Rattle.ante_wrun.specs.ThreadStates.{state_of, values_of, rest_of, under, whole, Reaches, Ready, TriesPlain, plain_at, plain_of}
+use Rattle.ante_wvalues.specs.PlainSteps.{values_of, Ready, TriesPlain, plain_at, plain_of}
+use Rattle.ante_wrun.specs.ThreadStates.{state_of, rest_of, under, whole, Reaches}
 use Rattle.ante_wrun.specs.Control.{program_of, Leads}
 use Rattle.ante_wrun.proofs.Calls.{if_ok, ended}
 use Rattle.ante_wmeaning.specs.RunEnds.{NotStuck}

@@ -43,8 +43,8 @@ returns-in_ok-push_with_room-in-Host-clause-leads g c = λ w left last environme
           ∙ ap (λ b. only_if b (call_host g.H.Host.meaning kind number s)) (le-leb (length kind.params) (length t.state.values.stack) le))
           ∙ ap (λ v. under g.H.Host.meaning program t.free v.below t.frames
           (and_then (call_host g.H.Host.meaning kind number (on_stack (state_of (record t.state { values = v }) w left last environment) (popped v.stack))) (rest_of g.H.Host.meaning program t)))
-          (sym c.in_ok-push_with_room-in-Host.ensures),
-      omega (arith, le, ap (λ v. length v.stack) c.in_ok-push_with_room-in-Host.ensures),
+          (sym c.in_ok-push_with_room-in-Host.ensures.ok),
+      omega (arith, le, ap (λ v. length v.stack) c.in_ok-push_with_room-in-Host.ensures.ok),
       (c.args.at, f),
     )
 

@@ -4,7 +4,7 @@ use Rattle.ante_wtree.specs.Types.{result_of}
 use Rattle.ante_wmeaning.specs.declared.ends.RunEnd.TheVariants as end
 use Rattle.ante_wrun.specs.declared.blocks.Frame.TheVariants as frame
 use Rattle.ante_wmeaning.specs.Execution.{arguments}
-use Rattle.ante_wrun.specs.Frames.{FrameValues}
+use Rattle.ante_wvalues.specs.FrameValues.{FrameValues}
 use Rattle.ante_wrun.specs.ThreadStates.{state_of, rest_of}
 use Rattle.ante_wrun.specs.Control.{own_at}
 use Rattle.ante_wrun.proofs.Calls.{stops, enters}
@@ -31,4 +31,4 @@ returns-clause-leads g c = λ program w left last environment.
     ∙ ap (λ k. frame.Call k c.below.result c.local_count.result t.free t.code ∷ t.frames) (c.result_of.ensures ∙ ap result_of c.as_slice.ensures)
     ∙ ap (λ k. frame.Call (result_of c.args.kind.now.results) k c.local_count.result t.free t.code ∷ t.frames) c.below.ensures
     ∙ ap (λ k. frame.Call (result_of c.args.kind.now.results) (length v.below) k t.free t.code ∷ t.frames) c.local_count.ensures)
-    (c.in_ok-enter.ensures ∙ ap (λ n. later v n c.args.locals) c.len-params.ensures)
+    (c.in_ok-enter.ensures.ok ∙ ap (λ n. later v n c.args.locals) c.len-params.ensures)

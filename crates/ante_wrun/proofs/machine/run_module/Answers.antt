@@ -4,7 +4,7 @@ use Rattle.ante_wtree.specs.Trees.{tree_of}
 use Rattle.ante_wmeaning.specs.declared.ends.TrapKind.TheVariants as trap
 use Rattle.ante_wmeaning.specs.declared.ends.RunEnd.TheVariants as end
 use Rattle.ante_wmeaning.specs.Environment.{after_item}
-use Rattle.ante_wrun.specs.ThreadStates.{values_of}
+use Rattle.ante_wvalues.specs.PlainSteps.{values_of}
 use Rattle.ante_wrun.specs.Control.{program_of}
 use Rattle.ante_wmeaning.specs.Environment.{Supplied, past}
 use Rattle.ante_wmeaning.specs.RunEnds.{Ends}

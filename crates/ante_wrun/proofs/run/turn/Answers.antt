@@ -1,4 +1,4 @@
-use Rattle.std.proofs.Common.{◌≡◌, ◌<◌, Some, [], ◌∷◌, length, refl, sym, subst, ◌∙◌, arith}
+use Rattle.std.proofs.Common.{◌≡◌, ◌<◌, [], ◌∷◌, length, refl, sym, subst, ◌∙◌, arith}
 use Rattle.ante_wtree.specs.Types.{masked}
 use Rattle.ante_wmeaning.specs.declared.ends.RunEnd.TheVariants as end
 use Rattle.ante_wmeaning.specs.PlainInstructions.{popped}
@@ -12,7 +12,6 @@ use Rattle.ante_wmeaning.specs.RunEnds.{Ends, Lacking, NotStuck}
 use Rattle.ante_wrun.proofs.Turning.{first_of, sound_turn, answered, turn_by, limit_by, cut_by, lack_by, stops_ends}
 use Rattle.ante_wrun.proofs.Rules.{first_runs, inner}
 use Rattle.ante_wmeaning.proofs.Arguments.{masked_fit}
-use Rattle.ante_wrun.specs.InstructionCycle.{MayLook}
 use Rattle.ante_wrun.proofs.run.turn.Goals as goal
 
 pub returns-in-StepLimit-clause-leads : goal.returns-in-StepLimit-clause-leads

@@ -1,10 +1,11 @@
 use Rattle.std.proofs.Common.{◌≡◌, suc, ◌-◌, refl, ◌∙◌}
 use Rattle.ante_wmeaning.specs.declared.ends.RunEnd.TheVariants as end
 use Rattle.ante_wmeaning.specs.RunEnds.{Stops}
-use Rattle.ante_wrun.specs.ThreadStates.{goes, plain_of, values_in}
+use Rattle.ante_wvalues.specs.PlainSteps.{plain_of, values_in}
+use Rattle.ante_wrun.specs.ThreadStates.{goes}
 use Rattle.ante_wmeaning.specs.RunEnds.{NotStuck}
 use Rattle.ante_wrun.specs.Stretches.{stepping}
-use Rattle.ante_wrun.proofs.Plains.{untouched}
+use Rattle.ante_wvalues.proofs.Plains.{untouched}
 use Rattle.ante_wrun.proofs.Stretching.{acting, done_leads, trap_leads, next_sound, ready_next, one_quiet, still}
 use Rattle.ante_wrun.proofs.stretch.advance.Goals as goal
 

@@ -1,0 +1,4 @@
+pub mod Regions
+pub mod Signs
+pub mod Plains
+pub mod Masks
