@@ -127,7 +127,7 @@ module _ {W : Type 0} where
   writing_typed r mode.Reading name reply h = refused_typed W r (write_refused name)
   writing_typed r mode.Writing name reply h = h
 
-mapped_typed : {V W : Type 0} (r : Option ValueKind) (f : V → W) (reply : Reply V Failure) → IsReplyOf r reply → IsReplyOf r (map_reply f reply)
+pub mapped_typed : {V W : Type 0} (r : Option ValueKind) (f : V → W) (reply : Reply V Failure) → IsReplyOf r reply → IsReplyOf r (map_reply f reply)
 mapped_typed None f (value n v m) h = absurd h
 mapped_typed (Some k) f (value n v m) h = h
 mapped_typed None f (nothing v m) h = tt

@@ -1,5 +1,5 @@
 -- What a run knows of itself, its action and its transaction, and what it answers.
-use Rattle.std.specs.Prelude.{ℕ, ◌+◌, ◌*◌, ◌%◌, ◌^◌, nat_lt, List, length, Result, Ok, Err, if◌then◌else◌}
+use Rattle.std.specs.Prelude.{◌≡◌, ℕ, ◌+◌, ◌*◌, ◌%◌, ◌^◌, nat_lt, List, length, Result, Ok, Err, if◌then◌else◌}
 use Rattle.ante_pack.specs.Forms.{whole}
 use Rattle.ante_pack.specs.declared.fault.PackFault.{PackFault}
 use Rattle.ante_types.specs.Chain.{transaction}
@@ -58,6 +58,10 @@ abbrev pub read_transaction : (packed : List ℕ) → SysView → List ℕ → L
 read_transaction packed v args m left = copy packed v args m left
 
 -- ---- the transaction's fields
+
+-- the bytes read as a transaction
+abbrev pub IsPacked : List ℕ → Type 0
+IsPacked packed = (t : Transaction) × (whole transaction packed ≡ Ok t)
 
 -- Bytes that don't read as a transaction are never run.
 abbrev pub field_of : (Transaction → ℕ) → Result Transaction PackFault → ℕ

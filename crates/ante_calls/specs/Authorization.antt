@@ -25,7 +25,8 @@ yes_or_no false = 0
 
 -- require_auth(name): some level of the action is of this account
 abbrev pub require_auth : SysView → List ℕ → LinearMemory → (left : ℕ) → Outcome SysView Failure
-require_auth v args m left = replies (if is_actor (name_arg args 0) v.run.action then nothing v m else refused (failure.MissingAuth (name_arg args 0) no_name)) left
+require_auth v args m left =
+    replies (if is_actor (name_arg args 0) v.run.action then nothing v m else refused (failure.MissingAuth (name_arg args 0) no_name)) left
 
 -- require_auth2(name, permission): the action has this very level
 abbrev pub require_auth2 : SysView → List ℕ → LinearMemory → (left : ℕ) → Outcome SysView Failure

@@ -43,7 +43,8 @@ printn v args m left = replies (prints_text (name_text (arg args 0)) v m) left
 
 -- printi128(at), printui128(at): the number in 16 bytes
 abbrev pub printi128 : SysView → List ℕ → LinearMemory → (left : ℕ) → Outcome SysView Failure
-printi128 v args m left = reading (bytes_from 0 16 args m) left (λ bytes. replies (prints_text (signed_decimal (cast_signed w128 (from_le_bytes w128 bytes))) v m) left)
+printi128 v args m left = reading (bytes_from 0 16 args m) left (λ bytes.
+    replies (prints_text (signed_decimal (cast_signed w128 (from_le_bytes w128 bytes))) v m) left)
 
 abbrev pub printui128 : SysView → List ℕ → LinearMemory → (left : ℕ) → Outcome SysView Failure
 printui128 v args m left = reading (bytes_from 0 16 args m) left (λ bytes. replies (prints_text (decimal (from_le_bytes w128 bytes)) v m) left)

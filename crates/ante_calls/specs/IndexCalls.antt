@@ -8,6 +8,7 @@ use Rattle.ante_undo.specs.Entries.{first_where}
 use Rattle.ante_pack.specs.declared.names.Name.{Name}
 use Rattle.ante_pack.specs.declared.names.TableKey.{TableKey}
 use Rattle.ante_pack.specs.declared.names.Key256.{Key256}
+use Rattle.ante_pack.specs.KeyOrder.{key256_order}
 use Rattle.ante_types.specs.declared.context.RunContext.{RunContext}
 use Rattle.ante_types.specs.declared.failure.Failure.{Failure}
 use Rattle.ante_types.specs.declared.failure.Failure.TheVariants as failure
@@ -25,10 +26,6 @@ use Rattle.ante_calls.specs.RowReplies.{answered, iterator_alone, no_answer, ite
 use Rattle.ante_calls.specs.Views.{RowView}
 
 -- ---- keys
-
--- the first word first
-abbrev pub key256_order : Key256 → Key256 → Ordering
-key256_order a b = ordering_then (nat_cmp a.first b.first) (nat_cmp a.second b.second)
 
 -- how keys of a width are ordered, and how they stand in memory
 pub record KeyForm (K : Type 0) : Type 0 where
@@ -137,7 +134,8 @@ module _ {K : Type 0} (form : KeyForm K) (index : IndexRows K) where
   -- db_idxW_store(scope, table, payer, id, KEY)
   abbrev pub idx_store : RunContext → RowView → List ℕ → LinearMemory → (left : ℕ) → Outcome RowView Failure
   idx_store run v args m left = reading (key_bytes 4 args m) left (λ bytes. replies (writing run.mode (name_of (codes "store")) (unless (key_refusal 4 args)
-      (answered (name_of (codes "store")) (store index_kind run (name_arg args 0) (name_arg args 1) (name_arg args 2) (arg args 3) (form.of_bytes bytes) v) (iterator_alone m)))) left)
+      (answered (name_of (codes "store"))
+      (store index_kind run (name_arg args 0) (name_arg args 1) (name_arg args 2) (arg args 3) (form.of_bytes bytes) v) (iterator_alone m)))) left)
 
   -- db_idxW_update(it, payer, KEY)
   abbrev pub idx_update : RunContext → RowView → List ℕ → LinearMemory → (left : ℕ) → Outcome RowView Failure
@@ -177,7 +175,8 @@ module _ {K : Type 0} (form : KeyForm K) (index : IndexRows K) where
   shows_primary at m r = value (word r.0.0) r.1 (with_primary (primary_found r.0.1) at m)
 
   abbrev pub idx_find_secondary : RowView → List ℕ → LinearMemory → (left : ℕ) → Outcome RowView Failure
-  idx_find_secondary v args m left = reading (key_bytes 3 args m) left (λ bytes. reading (bytes_from (after_key 3) 8 args m) left (λ others. replies (unless (key_refusal 3 args)
+  idx_find_secondary v args m left = reading (key_bytes 3 args m) left (λ bytes. reading (bytes_from (after_key 3) 8 args m) left (λ others.
+      replies (unless (key_refusal 3 args)
       (shows_primary (arg32 args (after_key 3)) m (find_secondary (table_arg args) (form.of_bytes bytes) v))) left))
 
   -- db_idxW_lowerbound and db_idxW_upperbound(code, scope, table, KEY, primary): write first the key that is found and then the primary key
@@ -185,7 +184,8 @@ module _ {K : Type 0} (form : KeyForm K) (index : IndexRows K) where
   shows_both key_at primary_at m r = value (word r.0.0) r.1 (with_primary (primary_found r.0.1) primary_at (with_bytes (key_found r.0.1) key_at m))
 
   abbrev pub idx_bound : (TableKey → K → RowView → (ℤ × Option (K × ℕ)) × RowView) → RowView → List ℕ → LinearMemory → (left : ℕ) → Outcome RowView Failure
-  idx_bound bound v args m left = reading (key_bytes 3 args m) left (λ bytes. reading (bytes_from (after_key 3) 8 args m) left (λ others. replies (unless (key_refusal 3 args)
+  idx_bound bound v args m left = reading (key_bytes 3 args m) left (λ bytes. reading (bytes_from (after_key 3) 8 args m) left (λ others.
+      replies (unless (key_refusal 3 args)
       (shows_both (arg32 args 3) (arg32 args (after_key 3)) m (bound (table_arg args) (form.of_bytes bytes) v))) left))
 
   -- db_idxW_end(code, scope, table)

@@ -1,5 +1,5 @@
--- To be read in this order: how a call is made up, what a run sees; what the calls on rows do, with the iterators of `ante_itercache`; the other
--- calls by subject; all calls by their numbers.
+-- To be read in this order: how a call is made up; what a run sees, and the store that a call is lent; what the calls on rows do, with the
+-- iterators of `ante_itercache`; the other calls by subject; all calls by their numbers; what every call keeps.
 pub mod Calls
 pub mod Accounts
 pub mod Views
@@ -18,4 +18,5 @@ pub mod WideIntegers
 pub mod ChainState
 pub mod System
 pub mod Numbers
-pub mod Answers
+pub mod Keeping
+pub mod RowAnswers

@@ -15,7 +15,8 @@ use Rattle.ante_calls.specs.Views.{SysView}
 -- memcpy(to, from, n): the two ranges may not overlap. The answer is `to`.
 abbrev pub memcpy : SysView → List ℕ → LinearMemory → (left : ℕ) → Outcome SysView Failure
 memcpy v args m left = reading (bytes_from 0 (arg32 args 2) args m) left (λ old. reading (bytes_from 1 (arg32 args 2) args m) left (λ bytes.
-    paying (length bytes) left (if nat_lt (abs_diff (arg32 args 0) (arg32 args 1)) (arg32 args 2) then refused failure.Overlap else value (arg32 args 0) v (written m (arg32 args 0) bytes))))
+    paying (length bytes) left (if nat_lt (abs_diff (arg32 args 0) (arg32 args 1)) (arg32 args 2) then refused failure.Overlap
+    else value (arg32 args 0) v (written m (arg32 args 0) bytes))))
 
 -- memmove(to, from, n): as if through a second buffer
 abbrev pub memmove : SysView → List ℕ → LinearMemory → (left : ℕ) → Outcome SysView Failure

@@ -140,7 +140,8 @@ module _ {P R V : Type 0} (kind : Kind P R V) where
 
   -- the live row with this number, which must be of the receiver's own
   abbrev pub own_row : RunContext → ℤ → Iterators → Result (TableKey × ℕ) DbFault
-  own_row run it iters = then_do (some_or (fault.BadIterator it) (live_row it iters)) (λ r. if same_name r.0.code run.receiver then Ok r else Err (fault.NotOwner r.0.code))
+  own_row run it iters =
+      then_do (some_or (fault.BadIterator it) (live_row it iters)) (λ r. if same_name r.0.code run.receiver then Ok r else Err (fault.NotOwner r.0.code))
 
   -- the empty name keeps the payer
   abbrev pub new_payer : Name → R → Name
@@ -149,7 +150,8 @@ module _ {P R V : Type 0} (kind : Kind P R V) where
   abbrev pub update_refusal : RunContext → Name → R → V → World → Option DbFault
   update_refusal run payer row value w =
       if not (payer.0 == 0) && not (is_account payer w) then Some (fault.UnknownAccount payer)
-      else if (not (same_name (new_payer payer row) (kind.payer row)) || kind.grows row value) && not (may_bill (new_payer payer row) run) then Some (fault.BadPayer (new_payer payer row))
+      else if (not (same_name (new_payer payer row) (kind.payer row)) || kind.grows row value) && not (may_bill (new_payer payer row) run)
+      then Some (fault.BadPayer (new_payer payer row))
       else None
 
   abbrev pub update : RunContext → ℤ → (payer : Name) → V → RowView → Answer (Unit {0})
@@ -157,7 +159,8 @@ module _ {P R V : Type 0} (kind : Kind P R V) where
       writing run.mode (then_do (own_row run it v.iters) (λ r.
       then_do (some_or (fault.BadIterator it) (kind.row r.0 r.1 v.world)) (λ row.
       unless (update_refusal run payer row value v.world)
-      (then_do (make (fault.BadIterator it) (kind.updating r.0 r.1 (new_payer payer row) value) v.world) (λ w. Ok (tt, record { world = w; iters = v.iters }))))))
+      (then_do (make (fault.BadIterator it) (kind.updating r.0 r.1 (new_payer payer row) value) v.world) (λ w.
+      Ok (tt, record { world = w; iters = v.iters }))))))
 
   -- its number isn't that of a live row any more
   abbrev pub remove : RunContext → ℤ → RowView → Answer (Unit {0})

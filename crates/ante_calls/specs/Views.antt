@@ -1,6 +1,9 @@
--- What a run sees and changes, and the part of it that each group of calls sees.
-use Rattle.std.specs.Prelude.{ℕ, List}
+-- What a run sees and changes, and the part of it that each group of calls sees; and what no call changes of the store that it is lent.
+use Rattle.std.specs.Prelude.{◌≡◌, ℕ, ◌<◌, Bool, true, false, List, length, Option}
+use Rattle.ante_undo.specs.Stack.{Stack, Shelf, IsAbove}
 use Rattle.ante_types.specs.World.{World}
+use Rattle.ante_types.specs.declared.context.Mode.{Mode}
+use Rattle.ante_types.specs.declared.context.Mode.TheVariants as mode
 use Rattle.ante_types.specs.declared.context.RunContext.{RunContext}
 use Rattle.ante_itercache.specs.Iterators.{Iterators, no_iterators}
 
@@ -67,3 +70,31 @@ index256_of s = record { world = s.world; iters = s.lists.index256 }
 
 abbrev pub with_index256 : Seen → RowView → Seen
 with_index256 s v = record { world = v.world; lists = record s.lists { index256 = v.iters }; run = s.run; packed = s.packed }
+
+-- what a run has said: of a run that failed nothing else shows
+abbrev pub said : RunContext → List ℕ × List ℕ
+said run = (run.console, run.return_value)
+
+-- ---- the store that a call is lent
+
+-- what no call changes of it, whatever the call answers: the states of the sessions beneath, whether it may be written to, and which store it is
+pub record Base : Type 0 where
+  pub under : List World
+  pub revision : ℕ
+  pub shelf : Option (Shelf World)
+  pub writing : Bool
+  pub lent : ℕ
+
+abbrev pub base_of : Stack World → (writing : Bool) → (lent : ℕ) → Base
+base_of s writing lent = record { under = s.under; revision = s.revision; shelf = s.shelf; writing = writing; lent = lent }
+
+abbrev pub is_writing : Mode → Bool
+is_writing mode.Writing = true
+is_writing mode.Reading = false
+
+-- A store is ready for a run in this mode: it may be written to in writing mode alone, and then a session is open, which began after the shelf
+-- was made, if there is one.
+pub record ReadyFor (run : Mode) (s : Stack World) (writing : Bool) : Type 0 where
+  pub mode : writing ≡ is_writing run
+  pub session : writing ≡ true → 0 < length s.under
+  pub above : writing ≡ true → IsAbove 1 s

@@ -1,6 +1,6 @@
 -- Worked examples of an action with all that it causes, over codes that are written as functions, with expected values from outside.
 use Rattle.std.proofs.Common.{◌≡◌, refl, ℕ, false, List, [], ◌∷◌, ◌++◌}
-use Rattle.std.specs.Prelude.{map, nat_lt, ◌==◌, Ok, Err, Result, if◌then◌else◌, length}
+use Rattle.std.specs.Prelude.{map, nat_lt, ◌==◌, None, Ok, Err, Result, if◌then◌else◌, length}
 use Rattle.ante_pack.specs.declared.names.Name.{Name}
 use Rattle.ante_pack.specs.Names.{name_number, number_of}
 use Rattle.ante_types.specs.declared.chain.Action.{Action}
@@ -12,6 +12,7 @@ use Rattle.ante_types.specs.World.{World}
 use Rattle.ante_calls.specs.Views.{Seen}
 use Rattle.ante_execution.specs.Actions.{Scene, Going, Failed, run_one, apply}
 use Rattle.ante_execution.specs.Runs.{Codes, fine, fails, runs}
+use Rattle.ante_execution.specs.Transactions.{looks_of}
 use Rattle.ante_execution.proofs.Weights.{named, account}
 
 abbrev pub action : ℕ → Action
@@ -43,7 +44,7 @@ abbrev pub scene : Scene
 scene = record { mode = mode.Writing; slot = 0; packed = [] }
 
 abbrev pub start : (left : ℕ) → Going
-start left = record { world = world; left = left; traces = [] }
+start left = record { world = world; left = left; traces = []; looks = 0 }
 
 -- receiver, ordinal, creator, sender
 abbrev pub shown_trace : ActionTrace → ℕ × ℕ × ℕ × List ℕ
@@ -103,3 +104,16 @@ five_traced = refl
 too_deep : failure_of (apply nested_more scene (action 1) (start 100)) ≡ Err failure.InlineDepth
 unfolding apply run_one runs name_number number_of
 too_deep = refl
+
+-- ---- looks: those of all runs of code, of one that fails too; a run that doesn't begin takes none
+
+abbrev pub looking : Codes
+looking = record { accepts = λ code. false; pages = λ code. 0; runs = λ code args s left. record { failure = None; seen = does s.run.receiver.0 s; left = left; looks = 2 } }
+
+six_look : looks_of (apply looking scene (action 1) (start 100)) ≡ 12
+unfolding apply run_one runs name_number number_of
+six_look = refl
+
+three_look : looks_of (apply looking scene (action 1) (start 3)) ≡ 6
+unfolding apply run_one runs name_number number_of
+three_look = refl

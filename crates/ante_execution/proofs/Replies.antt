@@ -7,9 +7,9 @@ use Rattle.ante_wtree.specs.declared.instructions.ValueKind.{ValueKind}
 use Rattle.ante_wtree.specs.Intrinsics.{type_at}
 use Rattle.ante_calls.specs.Numbers.{Indexes, intrinsic_at, intrinsic}
 use Rattle.ante_calls.specs.Views.{Seen}
-use Rattle.ante_wtree.specs.Replies.{IsReplyOf}
-use Rattle.ante_calls.proofs.Replies.{typed_by_number}
-use Rattle.ante_execution.specs.Hosts.{sent_refusal, unless, sent_reply, is_send_inline, checked, call}
+use Rattle.ante_wtree.specs.Replies.{IsReplyOf, AnswersTyped}
+use Rattle.ante_calls.proofs.Replies.{mapped_typed, typed_by_number}
+use Rattle.ante_execution.specs.Hosts.{sent_refusal, unless, sent_reply, is_send_inline, checked, call, over, host_call, Allows}
 
 unless_typed : (f : Option Failure) (s : Seen) (m : LinearMemory) → IsReplyOf None (unless f (nothing s m))
 unless_typed None s m = tt
@@ -36,3 +36,8 @@ pub call_typed : (indexes : Indexes) (number : ℕ) (params : List ValueKind) (r
 unfolding call
 call_typed indexes number params r s args m left e =
     checked_typed r (is_send_inline (intrinsic_at number)) (intrinsic indexes (intrinsic_at number) s args m left) (typed_by_number indexes number params r s args m left e)
+
+-- so a run may ask for typed replies of the host
+pub host_typed : (indexes : Indexes) → AnswersTyped (λ h number args left. Allows h left) (host_call indexes)
+host_typed indexes number params result args h m left e fit allowed =
+    mapped_typed result (over h.base) (call indexes h.seen number args m left).reply (call_typed indexes number params result h.seen args m left e)

@@ -19,17 +19,19 @@ pub record Scene : Type 0 where
   pub slot : ℕ
   pub packed : List ℕ
 
--- what runs hand on
+-- what runs hand on, with the looks that they took
 pub record Going : Type 0 where
   pub world : World
   pub left : ℕ
   pub traces : List ActionTrace
+  pub looks : ℕ
 
 -- the first failure ends the whole, and keeps the traces of the runs begun
 pub record Failed : Type 0 where
   pub failure : Failure
   pub left : ℕ
   pub traces : List ActionTrace
+  pub looks : ℕ
 
 abbrev pub and_then : {A B : Type 0} → Result A Failed → (A → Result B Failed) → Result B Failed
 and_then (Ok a) go = go a
@@ -109,10 +111,15 @@ asked_by job ordinal a run = record {
   senders = a.senders ++ replicate (length run.inlines) (record { receiver = job.receiver; ordinal = ordinal });
 }
 
+abbrev pub gone_on : Action → Job → Going → Ran → Going
+gone_on action job g r = record { world = r.seen.world; left = r.left; traces = with_trace action job g r; looks = g.looks + r.looks }
+
+abbrev pub failed_at : Failure → Action → Job → Going → Ran → Failed
+failed_at f action job g r = record { failure = f; left = r.left; traces = with_trace action job g r; looks = g.looks + r.looks }
+
 abbrev pub after_run : Option Failure → Action → Job → Asked → Going → Ran → Result (Asked × Going) Failed
-after_run None action job a g r =
-    Ok (asked_by job (next_ordinal g.traces) a r.seen.run, record { world = r.seen.world; left = r.left; traces = with_trace action job g r })
-after_run (Some f) action job a g r = Err (record { failure = f; left = r.left; traces = with_trace action job g r })
+after_run None action job a g r = Ok (asked_by job (next_ordinal g.traces) a r.seen.run, gone_on action job g r)
+after_run (Some f) action job a g r = Err (failed_at f action job g r)
 
 module _ (codes : Codes) (scene : Scene) where
   unfoldable pub run_one : Action → Job → Asked → Going → Result (Asked × Going) Failed
@@ -158,7 +165,7 @@ module _ (codes : Codes) (scene : Scene) where
 
   -- an action at this depth, where so many depths more are free: at the last one nothing can be sent
   abbrev pub act : (free depth : ℕ) → Action → Sender → Going → Result Going Failed
-  act zero depth action by g = Err (record { failure = failure.InlineDepth; left = g.left; traces = g.traces })
+  act zero depth action by g = Err (record { failure = failure.InlineDepth; left = g.left; traces = g.traces; looks = g.looks })
   act (suc free) depth action by g = causes (act free (suc depth)) depth action by g
 
   abbrev pub nobody : Sender

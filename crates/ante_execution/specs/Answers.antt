@@ -2,13 +2,23 @@
 use Rattle.std.specs.Prelude.{◌≡◌, ℕ, Bool, true, false, List, Option, None, Some, Result, Ok, Err}
 use Rattle.ante_types.specs.declared.failure.Failure.{Failure}
 use Rattle.ante_types.specs.declared.failure.Failure.TheVariants as failure
+use Rattle.ante_base.specs.Stops.{Rises}
+use Rattle.ante_port.specs.declared.ReadEnd.{ReadEnd}
+use Rattle.ante_port.specs.declared.ReadEnd.TheVariants as read
+use Rattle.std.specs.declared.alloc.AllocError.{AllocError}
 use Rattle.ante_types.specs.declared.trace.ActionTrace.{ActionTrace}
+use Rattle.ante_types.specs.declared.trace.Trace.{Trace}
 use Rattle.ante_types.specs.World.{World}
 use Rattle.ante_execution.specs.Actions.{Failed}
+use Rattle.ante_execution.specs.Transactions.{Done}
 use Rattle.ante_execution.specs.declared.ends.ApplyEnd.{ApplyEnd}
 use Rattle.ante_execution.specs.declared.ends.ApplyEnd.TheVariants as ends
 use Rattle.ante_execution.specs.declared.ends.AuthFault.{AuthFault}
 use Rattle.ante_execution.specs.declared.ends.AuthFault.TheVariants as auth
+use Rattle.ante_port.specs.declared.block.BlockRunError.{BlockRunError}
+use Rattle.ante_port.specs.declared.block.BlockRunError.TheVariants as block
+use Rattle.ante_execution.specs.declared.ends.GenesisFault.{GenesisFault}
+use Rattle.ante_execution.specs.declared.ends.GenesisFault.TheVariants as genesis
 use Rattle.ante_execution.specs.declared.ends.NativeFault.{NativeFault}
 use Rattle.ante_execution.specs.declared.ends.NativeFault.TheVariants as native
 
@@ -28,9 +38,40 @@ DoesNative does (Ok false) w = does ≡ None
 DoesNative does (Err native.OutOfMemory) w = Unit {0}
 DoesNative does (Err (native.Failed f)) w = does ≡ Some (Err f)
 
--- an action, or a part of what it causes, went on so or failed so, with these steps left and these runs begun
-abbrev pub Comes : {A B : Type 0} → (A → B) → Result B Failed → Result A ApplyEnd → (left : ℕ) → (traces : List ActionTrace) → Type 0
-Comes going result (Ok a) left traces = result ≡ Ok (going a)
-Comes going result (Err (ends.Failed f)) left traces = result ≡ Err (record { failure = f; left = left; traces = traces })
-Comes going result (Err ends.OutOfMemory) left traces = Unit {0}
-Comes going result (Err (ends.Cut at)) left traces = Unit {0}
+-- a genesis has this first fault, or none
+abbrev pub ChecksGenesis : Option GenesisFault → Result (Unit {0}) GenesisFault → Type 0
+ChecksGenesis fault (Ok done) = fault ≡ None
+ChecksGenesis fault (Err genesis.OutOfMemory) = Unit {0}
+ChecksGenesis fault (Err (genesis.Version found)) = fault ≡ Some (genesis.Version found)
+ChecksGenesis fault (Err genesis.Producers) = fault ≡ Some genesis.Producers
+ChecksGenesis fault (Err genesis.AccountOrder) = fault ≡ Some genesis.AccountOrder
+ChecksGenesis fault (Err genesis.NoSystem) = fault ≡ Some genesis.NoSystem
+ChecksGenesis fault (Err (genesis.BadAuthority account)) = fault ≡ Some (genesis.BadAuthority account)
+ChecksGenesis fault (Err (genesis.BadCode account)) = fault ≡ Some (genesis.BadCode account)
+
+-- An action, or a part of what it causes, went on so or failed so, with these steps left and these runs begun. What it gives is told from the
+-- looks that it took, by which the stop's count rose, where the stop tells it.
+abbrev pub Comes : {A B : Type 0} → (A → (looks : ℕ) → B) → Result B Failed → Result A ApplyEnd → (left : ℕ) → (traces : List ActionTrace) →
+    (old new : Option ℕ) → Type 0
+Comes going result (Ok a) left traces old new = (looks : ℕ) × Rises looks old new × (result ≡ Ok (going a looks))
+Comes going result (Err (ends.Failed f)) left traces old new =
+    (looks : ℕ) × Rises looks old new × (result ≡ Err (record { failure = f; left = left; traces = traces; looks = looks }))
+Comes going result (Err ends.OutOfMemory) left traces old new = Unit {0}
+Comes going result (Err (ends.Cut at)) left traces old new = Unit {0}
+
+-- a read-only transaction gave this trace, and the stop's count rose by so many looks
+abbrev pub ReadsOnly : Trace → (looks : ℕ) → Result (ReadEnd Trace) AllocError → (old new : Option ℕ) → Type 0
+ReadsOnly trace looks (Ok (read.Done t)) old new = (t ≡ trace) × Rises looks old new
+ReadsOnly trace looks (Ok (read.Cut at)) old new = Unit {0}
+ReadsOnly trace looks (Err e) old new = Unit {0}
+
+-- a transaction gave its trace, and left the state that it leaves
+abbrev pub Transacts : Done → Result Trace AllocError → World → Type 0
+Transacts done (Ok t) w = (t ≡ done.trace) × (w ≡ done.world)
+Transacts done (Err e) w = Unit {0}
+
+-- a block left this state, or the number of its first failure was given
+abbrev pub RunsBlock : Result World ℕ → Result (Unit {0}) BlockRunError → World → Type 0
+RunsBlock result (Ok done) w = result ≡ Ok w
+RunsBlock result (Err block.OutOfMemory) w = Unit {0}
+RunsBlock result (Err (block.Invalid code)) w = result ≡ Err code

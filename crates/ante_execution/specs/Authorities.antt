@@ -133,7 +133,8 @@ module _ (w : World) (action : Action) (keys : List (List ℕ)) (code : Option N
   abbrev pub level_refusal : Level → Option Failure
   level_refusal level =
       if not (has_permission level w) then Some (failure.MissingAuth level.actor level.permission)
-      else if not (is_or_is_above level.actor level.permission (least_permission level.actor action w) w) then Some (failure.Irrelevant level.actor level.permission)
+      else if not (is_or_is_above level.actor level.permission (least_permission level.actor action w) w)
+      then Some (failure.Irrelevant level.actor level.permission)
       else unsatisfied (satisfied w keys code level most_visits).0 level
 
   -- the account first, and then each level in order

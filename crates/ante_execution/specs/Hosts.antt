@@ -1,6 +1,8 @@
--- A call as the host of a run makes it: the intrinsic, and for an inline action whether its levels are satisfied.
-use Rattle.std.specs.Prelude.{ℕ, ◌-◌, Bool, true, false, List, [], ◌∷◌, length, drop, Option, None, Some, if◌then◌else◌}
-use Rattle.ante_undo.specs.Stack.{Stack, Shelf}
+-- A call as the host of a run makes it: the intrinsic, and for an inline action whether its levels are satisfied. And the host over the sessions
+-- beneath: when a call may be made, and what one that fails leaves.
+use Rattle.std.specs.Prelude.{◌≡◌, ℕ, ◌+◌, ◌-◌, ◌<◌, Bool, true, false, List, [], ◌∷◌, length, drop, Option, None, Some, if◌then◌else◌}
+use Rattle.ante_undo.specs.Stack.{Stack}
+use Rattle.ante_itercache.specs.Iterators.{Iterators}
 use Rattle.ante_types.specs.declared.chain.Action.{Action}
 use Rattle.ante_types.specs.declared.context.RunContext.{RunContext}
 use Rattle.ante_types.specs.declared.failure.Failure.{Failure}
@@ -12,7 +14,9 @@ use Rattle.ante_calls.specs.declared.calls.Intrinsic.{Intrinsic}
 use Rattle.ante_calls.specs.declared.calls.Intrinsic.TheVariants as group
 use Rattle.ante_calls.specs.declared.calls.SysCall.TheVariants as sys
 use Rattle.ante_calls.specs.Numbers.{Indexes, intrinsic_at, intrinsic}
-use Rattle.ante_calls.specs.Views.{Seen}
+use Rattle.ante_calls.specs.Calls.{map_outcome}
+use Rattle.ante_calls.specs.ActionData.{IsPacked}
+use Rattle.ante_calls.specs.Views.{Seen, Lists, Base, ReadyFor, said}
 use Rattle.ante_execution.specs.Authorities.{check_action}
 
 -- ---- inline actions
@@ -60,18 +64,50 @@ call indexes s number args m left = checked (is_send_inline (intrinsic_at number
 
 -- ---- the host over the sessions beneath
 
--- what no call changes: the states of the sessions beneath, whether they may be written to, and which store is lent
-pub record Base : Type 0 where
-  pub under : List World
-  pub revision : ℕ
-  pub shelf : Option (Shelf World)
-  pub writing : Bool
-  pub lent : ℕ
-
-abbrev pub base_of : Stack World → (writing : Bool) → (lent : ℕ) → Base
-base_of s writing lent = record { under = s.under; revision = s.revision; shelf = s.shelf; writing = writing; lent = lent }
-
--- the host as contracts see it
+-- the host as contracts see it: what a run sees, and what no call changes
 pub record HostView : Type 0 where
   pub seen : Seen
   pub base : Base
+
+abbrev pub over : Base → Seen → HostView
+over base s = record { seen = s; base = base }
+
+abbrev pub host_call : Indexes → HostMeaning HostView Failure
+host_call indexes h number args m left = map_outcome (over h.base) (call indexes h.seen number args m left)
+
+-- the store, of which a run sees the newest state
+abbrev pub store_of : HostView → Stack World
+store_of h = record { under = h.base.under; top = h.seen.world; revision = h.base.revision; shelf = h.base.shelf }
+
+-- ---- when a call may be made with so many steps left
+
+-- a run may meet fewer tables than this, and fewer rows, of each kind
+abbrev pub most_met : ℕ
+most_met = 2147483646
+
+pub record HasRoom (left : ℕ) (i : Iterators) : Type 0 where
+  pub tables : length i.tables + left < most_met
+  pub rows : length i.rows + left < most_met
+
+-- A call takes a step, and meets one table and one row at most that it hadn't met: no list is longer than the steps paid.
+pub record HaveRoom (left : ℕ) (lists : Lists) : Type 0 where
+  pub rows : HasRoom left lists.rows
+  pub index64 : HasRoom left lists.index64
+  pub index128 : HasRoom left lists.index128
+  pub index256 : HasRoom left lists.index256
+
+pub record Allows (h : HostView) (left : ℕ) : Type 0 where
+  pub room : HaveRoom left h.seen.lists
+  pub ready : ReadyFor h.seen.run.mode (store_of h) h.base.writing
+  pub packed : IsPacked h.seen.packed
+
+-- ---- what stands after a call that is refused, or is refused memory
+
+abbrev pub Leaves : HostView → HostView → Type 0
+Leaves old new = (new.base ≡ old.base) × (said new.seen.run ≡ said old.seen.run)
+
+-- ---- the host and what a run sees
+
+-- the host shows this, over this base: its calls have the replies of `call`
+abbrev pub Shows : Base → HostView → Seen → Type 0
+Shows base h s = (h.seen ≡ s) × (h.base ≡ base)

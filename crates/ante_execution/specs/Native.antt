@@ -8,11 +8,10 @@ pub mod UpdateAuth
 pub mod DeleteAuth
 pub mod LinkAuth
 pub mod UnlinkAuth
-use Rattle.std.specs.Prelude.{ℕ, Bool, ◌&&◌, List, Option, None, Some, Result, Ok, Err, if◌then◌else◌}
-use Rattle.std.specs.Option.{option_or}
+use Rattle.std.specs.Prelude.{ℕ, Bool, List, Option, None, option_map, Result, Ok, Err, if◌then◌else◌}
 use Rattle.ante_pack.specs.declared.fault.PackFault.{PackFault}
 use Rattle.ante_pack.specs.declared.names.Name.{Name}
-use Rattle.ante_pack.specs.Forms.{Form, whole}
+use Rattle.ante_pack.specs.Forms.{whole}
 use Rattle.ante_pack.specs.Names.{name_text}
 use Rattle.ante_types.specs.declared.context.Mode.{Mode}
 use Rattle.ante_types.specs.declared.context.Mode.TheVariants as mode
@@ -66,6 +65,10 @@ module _ (accepts : List ℕ → Bool) (run : RunContext) (w : World) where
 -- the native action that a run does: only in the own run of the account that the action is for
 abbrev pub native_of_run : RunContext → Option NativeAction
 native_of_run run = if same_name run.receiver run.action.account then native_of run.action else None
+
+-- what the run's native action makes of the state, if it has one
+abbrev pub native_in_run : (accepts : List ℕ → Bool) → RunContext → World → Option (Result World Failure)
+native_in_run accepts run w = option_map (native_run accepts run w) (native_of_run run)
 
 -- ---- its steps: in writing mode setcode pays for its code, right after its data is read
 

@@ -30,7 +30,8 @@ abbrev pub eosio_any : Name
 eosio_any = named (codes "eosio.any")
 
 abbrev pub native_names : List (ℕ × NativeAction)
-native_names = (name_number (codes "newaccount"), native.NewAccount) ∷ (name_number (codes "setcode"), native.SetCode) ∷ (name_number (codes "setabi"), native.SetAbi)
+native_names =
+    (name_number (codes "newaccount"), native.NewAccount) ∷ (name_number (codes "setcode"), native.SetCode) ∷ (name_number (codes "setabi"), native.SetAbi)
     ∷ (name_number (codes "updateauth"), native.UpdateAuth) ∷ (name_number (codes "deleteauth"), native.DeleteAuth)
     ∷ (name_number (codes "linkauth"), native.LinkAuth) ∷ (name_number (codes "unlinkauth"), native.UnlinkAuth) ∷ []
 

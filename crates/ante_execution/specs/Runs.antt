@@ -7,22 +7,25 @@ use Rattle.ante_types.specs.declared.failure.Failure.{Failure}
 use Rattle.ante_types.specs.declared.failure.Failure.TheVariants as failure
 use Rattle.ante_types.specs.World.{World}
 use Rattle.ante_calls.specs.Accounts.{account_at}
-use Rattle.ante_calls.specs.Views.{Seen}
+use Rattle.ante_calls.specs.Views.{Seen, said}
 use Rattle.ante_execution.specs.declared.kinds.NativeAction.{NativeAction}
 use Rattle.ante_execution.specs.declared.kinds.NativeAction.TheVariants as native
 use Rattle.ante_execution.specs.Native.{native_of_run, native_steps, native_run}
 
--- how a run came out: why it failed, if it did, what it sees then, and the steps left; after a failure only what it said counts
+-- how a run came out: why it failed, if it did, what it sees then, the steps left, and how many looks at the stop it took; after a failure only
+-- what it said counts
 pub record Ran : Type 0 where
   pub failure : Option Failure
   pub seen : Seen
   pub left : ℕ
+  pub looks : ℕ
 
+-- with no look: only code looks
 abbrev pub fine : Seen → ℕ → Ran
-fine s left = record { failure = None; seen = s; left = left }
+fine s left = record { failure = None; seen = s; left = left; looks = 0 }
 
 abbrev pub fails : Failure → Seen → ℕ → Ran
-fails f s left = record { failure = Some f; seen = s; left = left }
+fails f s left = record { failure = Some f; seen = s; left = left; looks = 0 }
 
 -- What code does, by its bytes: whether it decodes and is valid, the pages of memory that it begins with, and what running it makes of what
 -- a run sees, as the interpreter's meaning has it where nothing disturbs the run.
@@ -91,8 +94,8 @@ module _ (codes : Codes) where
   unfoldable pub runs : Seen → (left : ℕ) → Ran
   runs s left = paid (first_steps (code_at s.run.receiver s.world)) left s (λ rest. begun (native_of_run s.run) s rest)
 
--- ---- what running code answers: how the run came out; after a failure what it had said
+-- ---- what the code of a run answers, after so many looks: how the run came out; after a failure what it had said
 
-abbrev pub HasRun : Ran → Option Failure → Seen → (left : ℕ) → Type 0
-HasRun r None s left = r ≡ fine s left
-HasRun r (Some f) s left = (r.failure ≡ Some f) × (r.seen.run ≡ s.run) × (r.left ≡ left)
+abbrev pub HasRun : Ran → Option Failure → Seen → (left looks : ℕ) → Type 0
+HasRun r None s left looks = r ≡ record { failure = None; seen = s; left = left; looks = looks }
+HasRun r (Some f) s left looks = (r.failure ≡ Some f) × (said r.seen.run ≡ said s.run) × (r.left ≡ left) × (r.looks ≡ looks)

@@ -117,7 +117,8 @@ standing_refusal w slot t id =
     else if list_all has_no_level t.actions then Some failure.NoAuthorization
     else None
 
-unfoldable pub transaction_refusal : Recovers → (chain_id : List ℕ) → World → (slot : ℕ) → Transaction → (packed : List ℕ) → (signatures : List (List ℕ)) → Option Failure
+unfoldable pub transaction_refusal : Recovers → (chain_id : List ℕ) → World → (slot : ℕ) → Transaction →
+    (packed : List ℕ) → (signatures : List (List ℕ)) → Option Failure
 transaction_refusal recovers chain_id w slot t packed signatures =
     option_or (form_refusal (packed_size packed signatures) t)
     (option_or (standing_refusal w slot t (sha256 packed))
@@ -142,7 +143,8 @@ pub record Done : Type 0 where
   pub world : World
 
 abbrev pub trace_with : (position : ℕ) → Head → (packed : List ℕ) → Option Failure → (steps : ℕ) → List ActionTrace → Trace
-trace_with position head packed failure steps actions = record { position = position; head = head; id = sha256 packed; failure = failure; steps = steps; actions = actions }
+trace_with position head packed failure steps actions =
+    record { position = position; head = head; id = sha256 packed; failure = failure; steps = steps; actions = actions }
 
 -- the predecessor of the block that a transaction runs in
 abbrev pub head_of : BlockInfo → Head
@@ -164,7 +166,7 @@ module _ (head : Head) (t : Transaction) (packed : List ℕ) (w : World) where
   acted (Ok g) = finished (memory_refusal w g.world) g
 
 abbrev pub fresh : World → Going
-fresh w = record { world = w; left = most_transaction_steps; traces = [] }
+fresh w = record { world = w; left = most_transaction_steps; traces = []; looks = 0 }
 
 abbrev pub writing_scene : (slot : ℕ) → (packed : List ℕ) → Scene
 writing_scene slot packed = record { mode = mode.Writing; slot = slot; packed = packed }
@@ -196,14 +198,30 @@ reading_refusal w t packed =
 abbrev pub reading_scene : (slot : ℕ) → (packed : List ℕ) → Scene
 reading_scene slot packed = record { mode = mode.Reading; slot = slot; packed = packed }
 
+abbrev pub reads : Codes → World → (slot : ℕ) → Transaction → (packed : List ℕ) → Result Going Failed
+reads codes w slot t packed = apply_all codes (reading_scene slot packed) t.actions (fresh w)
+
 abbrev pub read : (position : ℕ) → Head → (packed : List ℕ) → Result Going Failed → Trace
 read position head packed (Ok g) = trace_with position head packed None (most_transaction_steps - g.left) g.traces
 read position head packed (Err f) = trace_with position head packed (Some f.failure) (most_transaction_steps - f.left) f.traces
 
 abbrev pub read_unless : Codes → Option Failure → World → (position : ℕ) → Head → (slot : ℕ) → Transaction → (packed : List ℕ) → Trace
 read_unless codes (Some f) w position head slot t packed = trace_with position head packed (Some f) 0 []
-read_unless codes None w position head slot t packed = read position head packed (apply_all codes (reading_scene slot packed) t.actions (fresh w))
+read_unless codes None w position head slot t packed = read position head packed (reads codes w slot t packed)
 
 -- the trace of a read-only transaction at a head, with that block's slot
 unfoldable pub read_only : Codes → World → (position : ℕ) → Head → (slot : ℕ) → Transaction → (packed : List ℕ) → Trace
 read_only codes w position head slot t packed = read_unless codes (reading_refusal w t packed) w position head slot t packed
+
+-- ---- and how many looks at the stop it takes
+
+abbrev pub looks_of : Result Going Failed → ℕ
+looks_of (Ok g) = g.looks
+looks_of (Err f) = f.looks
+
+abbrev pub looks_unless : Codes → Option Failure → World → (slot : ℕ) → Transaction → (packed : List ℕ) → ℕ
+looks_unless codes (Some f) w slot t packed = 0
+looks_unless codes None w slot t packed = looks_of (reads codes w slot t packed)
+
+unfoldable pub reading_looks : Codes → World → (slot : ℕ) → Transaction → (packed : List ℕ) → ℕ
+reading_looks codes w slot t packed = looks_unless codes (reading_refusal w t packed) w slot t packed

@@ -1,6 +1,6 @@
 -- The iterators of a run: two numbered lists for each kind of row, the tables and the rows that the run has met. A row met has its place in
 -- the list as its number; the k-th table met has the end iterator -(k + 2); -1 is no iterator.
-use Rattle.std.specs.Prelude.{ℕ, zero, suc, ◌+◌, ◌==◌, Bool, true, false, ◌&&◌, ℤ, pos, negsuc, List, [], ◌∷◌, ◌++◌, length, position, slice_get, Option, None, Some, if◌then◌else◌}
+use Rattle.std.specs.Prelude.{ℕ, zero, suc, ◌+◌, ◌==◌, Bool, true, false, ◌&&◌, ℤ, pos, negsuc, List, [], ◌∷◌, ◌++◌, length, take, position, slice_get, Option, None, Some, if◌then◌else◌}
 use Rattle.std.specs.Ordering.{eq_by_cmp}
 use Rattle.ante_pack.specs.declared.names.TableKey.{TableKey}
 use Rattle.ante_state.specs.Orders.{table_order}
@@ -73,3 +73,8 @@ dead_at (suc n) (r ∷ rows) = r ∷ dead_at n rows
 abbrev pub row_removed : ℤ → Iterators → Iterators
 row_removed (pos n) i = record { tables = i.tables; rows = dead_at n i.rows }
 row_removed (negsuc n) i = i
+
+-- ---- taking back what was met last
+
+abbrev pub first_met : (tables rows : ℕ) → Iterators → Iterators
+first_met tables rows i = record { tables = take tables i.tables; rows = take rows i.rows }

@@ -1,8 +1,8 @@
 //! The iterators of a run: numbers that stand for the tables and rows that it has met.
 #![tactic(auto)]
 
-ghost use Rattle.std.specs.Prelude.{◌≡◌, ◌+◌, ◌<◌, ◌≤◌, ◌^◌, ◌++◌, ◌∷◌, [], pos, negsuc, length, position, Some, None, OnOk, OnErr, IfOk, true};
-ghost use Rattle.ante_itercache.specs.Iterators.{no_iterators, row_iterator, end_iterator, is_table, is_row, meet_table, meet_row, live_row, row_removed};
+ghost use Rattle.std.specs.Prelude.{◌≡◌, ◌+◌, ◌<◌, ◌≤◌, ◌^◌, ◌-◌, ◌++◌, ◌∷◌, [], pos, negsuc, length, take, position, Some, None, OnOk, OnErr, IfOk, true};
+ghost use Rattle.ante_itercache.specs.Iterators.{no_iterators, row_iterator, end_iterator, is_table, is_row, meet_table, meet_row, live_row, row_removed, first_met};
 ghost use Rattle.ante_itercache.specs.Iterators as iterators;
 
 mod met;
@@ -118,6 +118,49 @@ impl Iters {
         };
         self.row_places.remove(&RowKey { table, primary });
         self.rows[value as usize].live = false;
+    }
+
+    /// How many tables and how many rows were met.
+    pub fn met(&self) -> (usize, usize)
+        ensures { result ≡ (length self.now.tables, length self.now.rows) }
+    {
+        (self.tables.as_slice().len(), self.rows.as_slice().len())
+    }
+
+    /// Takes back the table and the row that were met last, each where more than so many were met.
+    pub fn back_to(&mut self, tables: usize, rows: usize)
+        requires tables { length self.old.tables ≤ tables + 1 }
+        requires rows { length self.old.rows ≤ rows + 1 }
+        ensures { self.new ≡ first_met tables rows self.old }
+    {
+        if tables < self.tables.as_slice().len() {
+            self.forget_table();
+        }
+        if rows < self.rows.as_slice().len() {
+            self.forget_row();
+        }
+    }
+
+    fn forget_table(&mut self)
+        ensures { self.new ≡ first_met (length self.old.tables - 1) (length self.old.rows) self.old }
+    {
+        if let Some(key) = self.tables.pop() {
+            self.table_places.remove(&key);
+        }
+    }
+
+    fn forget_row(&mut self)
+        ensures { self.new ≡ first_met (length self.old.tables) (length self.old.rows - 1) self.old }
+    {
+        let Some(row) = self.rows.pop() else {
+            return;
+        };
+        if row.live {
+            self.row_places.remove(&RowKey {
+                table: row.table,
+                primary: row.primary,
+            });
+        }
     }
 
     fn place_of_table(&self, key: &TableKey) -> Option<usize>

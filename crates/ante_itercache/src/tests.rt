@@ -98,3 +98,16 @@ fn numbers_follow_the_rule(rt: HostRuntime) -> Result<(), AllocError> {
     }
     Ok(())
 }
+
+#[test]
+fn what_was_met_last_is_taken_back(rt: HostRuntime) -> Result<(), AllocError> {
+    let mut iters = Iters::new(rt.alloc());
+    iters.table(rt.alloc(), table(7))?;
+    iters.row(rt.alloc(), table(7), 5)?;
+    assert_eq!(rt; iters.met(), (1, 1));
+    iters.back_to(1, 0);
+    assert_eq!(rt; iters.met(), (1, 0));
+    assert_eq!(rt; iters.get(0), None);
+    assert_eq!(rt; iters.row(rt.alloc(), table(7), 6)?, 0);
+    Ok(())
+}

@@ -3,7 +3,10 @@
 //! `specs/Reading.antt` says what a read comes to.
 #![tactic(auto)]
 
+mod block;
+
 use ante_base::Stop;
+pub use block::BlockRunError;
 use std::alloc::{AllocError, Global};
 
 /// What a read came to.

@@ -31,7 +31,8 @@ asks_already (Some name) requirement = same_name name requirement
 abbrev pub linkauth_refusal : LinkAuth → World → Option Failure
 linkauth_refusal d w =
     if not (is_account d.code w) || not (has_permission (record { actor = d.account; permission = d.requirement }) w) || same_name d.requirement eosio_any
-    || (same_name d.code eosio && is_of_permissions (native_named d.action)) || asks_already (link_at d.account d.code d.action w) d.requirement then Some (failure.Native 6)
+    || (same_name d.code eosio && is_of_permissions (native_named d.action)) || asks_already (link_at d.account d.code d.action w) d.requirement
+    then Some (failure.Native 6)
     else None
 
 abbrev pub linkauth_changes : LinkAuth → List Change

@@ -19,7 +19,8 @@ may_be_named d = not (d.name.0 == 0) && d.name.0 % 16 == 0 && (not (is_reserved 
 
 -- the new account counts as there, with its permissions
 abbrev pub is_new_level : Name → Level → Bool
-is_new_level name level = same_name level.actor name && (same_name level.permission owner || same_name level.permission active || same_name level.permission eosio_code)
+is_new_level name level =
+    same_name level.actor name && (same_name level.permission owner || same_name level.permission active || same_name level.permission eosio_code)
 
 abbrev pub is_there_then : Name → World → Level → Bool
 is_there_then name w level = is_there w level || is_new_level name level

@@ -54,7 +54,8 @@ all_weights a = sum_by (λ k. k.weight) a.keys + sum_by (λ l. l.weight) a.accou
 
 -- a threshold that can be reached, keys and levels in strict order, and each level there
 abbrev pub is_sound : (there : Level → Bool) → Authority → Bool
-is_sound there a = nat_le 1 a.threshold && rises key_order a.keys && rises account_order a.accounts && nat_le a.threshold (all_weights a) && list_all (λ l. there l.level) a.accounts
+is_sound there a =
+    nat_le 1 a.threshold && rises key_order a.keys && rises account_order a.accounts && nat_le a.threshold (all_weights a) && list_all (λ l. there l.level) a.accounts
 
 abbrev pub authority_refusal : (there : Level → Bool) → Authority → Option Failure
 authority_refusal there a =

@@ -30,7 +30,8 @@ keeps_parent (Some row) parent = same_name row.parent parent
 -- the permission and its parent first, then the authority
 abbrev pub updateauth_refusal : UpdateAuth → World → Option Failure
 updateauth_refusal d w =
-    if d.permission.0 == 0 || is_reserved d.permission || not (may_be_parent d w) || not (keeps_parent (permission_at (updated_level d) w) d.parent) then Some (failure.Native 4)
+    if d.permission.0 == 0 || is_reserved d.permission || not (may_be_parent d w) || not (keeps_parent (permission_at (updated_level d) w) d.parent)
+    then Some (failure.Native 4)
     else authority_refusal (is_there w) d.authority
 
 abbrev pub updateauth_changes : UpdateAuth → List Change
