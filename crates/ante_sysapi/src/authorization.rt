@@ -1,0 +1,28 @@
+// What a run asks of the levels of its action.
+ghost use Rattle.std.specs.Prelude.{◌≡◌};
+ghost use Rattle.ante_calls.specs.Accounts as accounts;
+ghost use Rattle.ante_calls.specs.Authorization as auth;
+ghost use Rattle.ante_sysapi.specs.Answers.{Says};
+ghost use Rattle.ante_wmem.specs.Linear.{LinearMemory};
+
+use crate::arguments::name_arg;
+use ante_pack::Level;
+use ante_types::{Action, Failure, RunContext};
+use ante_wmem::HostAnswer;
+
+fn has_level(level: Level, action: &Action) -> bool
+    ensures { result ≡ accounts.has_level level action.now }
+{
+    action.authorization.as_slice().iter().any(|own| level.actor.0 == own.actor.0
+        && level.permission.0 == own.permission.0)
+}
+
+pub(crate) fn require_auth2(args: &[u64], run: &RunContext) -> HostAnswer<Failure>
+    ensures { (m : LinearMemory) (left : _) → Says (λ v. auth.require_auth2 v args.now m left) result run.now run.now m left }
+{
+    let (actor, permission) = (name_arg(args, 0), name_arg(args, 1));
+    if has_level(Level { actor, permission }, &run.action) {
+        return HostAnswer::Nothing;
+    }
+    HostAnswer::Refused(Failure::MissingAuth { actor, permission })
+}

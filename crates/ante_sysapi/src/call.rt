@@ -1,0 +1,78 @@
+ghost use Rattle.std.specs.Prelude.{◌≡◌, ◌≤◌, Some};
+ghost use Rattle.ante_wmem.specs.HostCalls.{IsAnswer};
+ghost use Rattle.ante_calls.specs.declared.calls.SysCall.{SysCall};
+ghost use Rattle.ante_calls.specs.declared.calls.Intrinsic.TheVariants.{Sys};
+ghost use Rattle.ante_calls.specs.ActionData.{IsPacked};
+ghost use Rattle.ante_calls.specs.Numbers.{intrinsic_at};
+ghost use Rattle.ante_calls.specs.System as definitions;
+ghost use Rattle.ante_calls.specs.Views.{base_of, ReadyFor, said};
+ghost use Rattle.ante_sysapi.specs.Answers.{Answers, view};
+
+use crate::numbers::call_at;
+use crate::{action, authorization, control};
+use ante_calls::SysCall;
+use ante_store::Tables;
+use ante_types::{Failure, RunContext};
+use ante_wmem::{HostAnswer, HostFn, Memory};
+use std::alloc::Global;
+
+fn answer<T: Tables>(
+    call: SysCall,
+    args: &[u64],
+    memory: &mut Memory,
+    run: &mut RunContext,
+    packed: &[u8],
+    tables: &mut T,
+    alloc: Global,
+    left: &mut u64,
+) -> HostAnswer<Failure>
+    requires packed { IsPacked packed.now }
+    requires ready { ReadyFor run.old.mode (T.stack tables.old) (T.writing tables.old) }
+    ensures answer { Answers (λ v. definitions.sys_call packed.now call v args.now memory.old left.old) result
+        (view (T.stack tables.old).top run.old) (view (T.stack tables.new).top run.new) memory.new left.new }
+    ensures falls { left.new ≤ left.old }
+    ensures mode { run.new.mode ≡ run.old.mode }
+    ensures base { base_of (T.stack tables.new) (T.writing tables.new) (T.lent tables.new)
+        ≡ base_of (T.stack tables.old) (T.writing tables.old) (T.lent tables.old) }
+{
+    match call {
+        SysCall::Abort => HostAnswer::Refused(Failure::Abort),
+        SysCall::Exit => HostAnswer::Exit,
+        SysCall::AssertMessage => control::eosio_assert_message(args, memory, alloc, left),
+        SysCall::AssertCode => control::eosio_assert_code(args),
+        SysCall::CurrentReceiver => action::current_receiver(run),
+        SysCall::GetSender => action::get_sender(run),
+        SysCall::TransactionSize => action::size(packed),
+        SysCall::CurrentTime => action::current_time(run),
+        SysCall::PublicationTime => action::current_time(run),
+        SysCall::RequireAuth2 => authorization::require_auth2(args, run),
+        _ => HostAnswer::OutOfMemory,
+    }
+}
+
+/// A call by its number, which must be that of an intrinsic that isn't on tables. After a refusal, StepLimit and want of memory the run has said
+/// what it had said before; after want of memory and RamTotal the newest state may have changed.
+pub fn sys_call<T: Tables>(
+    function: HostFn,
+    args: &[u64],
+    memory: &mut Memory,
+    run: &mut RunContext,
+    packed: &[u8],
+    tables: &mut T,
+    alloc: Global,
+    left: &mut u64,
+) -> HostAnswer<Failure>
+    requires number { (call : SysCall) × (intrinsic_at function.0 ≡ Some (Sys call)) }
+    requires packed { IsPacked packed.now }
+    requires ready { ReadyFor run.old.mode (T.stack tables.old) (T.writing tables.old) }
+    ensures answer { (call : SysCall) → intrinsic_at function.0 ≡ Some (Sys call) →
+        IsAnswer (definitions.sys_call packed.now call (record { world = (T.stack tables.old).top; run = run.old }) args.now memory.old left.old)
+        (λ answer v. said v.run ≡ said run.old) result (record { world = (T.stack tables.new).top; run = run.new }) memory.new left.new }
+    ensures falls { left.new ≤ left.old }
+    ensures mode { run.new.mode ≡ run.old.mode }
+    ensures base { base_of (T.stack tables.new) (T.writing tables.new) (T.lent tables.new)
+        ≡ base_of (T.stack tables.old) (T.writing tables.old) (T.lent tables.old) }
+{
+    let call = call_at(function.0);
+    answer(call, args, memory, run, packed, tables, alloc, left)
+}
