@@ -1,0 +1,4 @@
+pub mod Walks
+pub mod Marked
+pub mod Climbing
+pub mod Counting
