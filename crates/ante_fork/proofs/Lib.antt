@@ -1,0 +1,10 @@
+pub mod Branches
+pub mod Pruned
+pub mod Added
+pub mod Apart
+pub mod Opening
+pub mod Ranking
+pub mod Low
+pub mod Finding
+pub mod Best
+pub mod Numbered
