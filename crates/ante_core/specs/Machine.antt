@@ -15,6 +15,9 @@ pub record Meaning (W X J F R : Type 0) : Type 0 where
   pub begun : W → J → F
   pub advanced : W → F → Piece F R
 
+abbrev pub meaning : {W X J F R : Type 0} → (W → X → W) → (W → J → F) → (W → F → Piece F R) → Meaning W X J F R
+meaning applied begun advanced = record { applied = applied; begun = begun; advanced = advanced }
+
 -- A window: its deadline, the jobs that waited when it began, how many of them were drawn, the moment at which it
 -- was rung, and the jobs in readers' hands, each with its reader and the frame that it has come to, in the order
 -- in which they were claimed.

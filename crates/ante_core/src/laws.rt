@@ -5,7 +5,7 @@
 
 ghost use Rattle.std.specs.Prelude.{◌≡◌, Bool, List};
 ghost use Rattle.ante_core.specs.declared.Event.{Event};
-ghost use Rattle.ante_core.specs.Machine.{start};
+ghost use Rattle.ante_core.specs.Machine.{meaning, start};
 ghost use Rattle.ante_core.specs.Runs.{run, Alone};
 ghost use Rattle.ante_core.specs.Sound.{IsSound};
 ghost use Rattle.ante_core.specs.Law.{EveryJobIsServed};
@@ -16,15 +16,18 @@ use crate::Actor;
 /// stands between its last claim and its finish; and its position is at least the number of writes that were made
 /// before it was taken.
 pub fn every_job_is_served<A: Actor>()
-    ensures { (world : A.World) (events : List (Event A A.World A.Write A.Job A.Frame A.Reply × Bool)) → EveryJobIsServed (record { applied = A.applied; begun = A.begun; advanced = A.advanced }) world events }
+    ensures { (world : A.World) (events : List (Event A A.World A.Write A.Job A.Frame A.Reply × Bool)) →
+        EveryJobIsServed (meaning A.applied A.begun A.advanced) world events }
 {}
 
 /// Every state that a run reaches is sound.
 pub fn every_state_is_sound<A: Actor>()
-    ensures { (world : A.World) (events : List (Event A A.World A.Write A.Job A.Frame A.Reply × Bool)) → IsSound (record { applied = A.applied; begun = A.begun; advanced = A.advanced }) (run (record { applied = A.applied; begun = A.begun; advanced = A.advanced }) (start world) events) }
+    ensures { let m = meaning A.applied A.begun A.advanced in (world : A.World) (events : List (Event A A.World A.Write A.Job A.Frame A.Reply × Bool)) →
+        IsSound m (run m (start world) events) }
 {}
 
 /// A job gives at most one reply alone on a world.
 pub fn alone_is_one<A: Actor>()
-    ensures { (world : A.World) (job : A.Job) (one other : A.Reply) → Alone (record { applied = A.applied; begun = A.begun; advanced = A.advanced }) world job one → Alone (record { applied = A.applied; begun = A.begun; advanced = A.advanced }) world job other → one ≡ other }
+    ensures { let m = meaning A.applied A.begun A.advanced in (world : A.World) (job : A.Job) (one other : A.Reply) →
+        Alone m world job one → Alone m world job other → one ≡ other }
 {}

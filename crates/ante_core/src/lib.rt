@@ -11,7 +11,7 @@
 ghost use Rattle.std.specs.Prelude.{◌≡◌, IfOk, OnOk, OnErr, length};
 ghost use Rattle.ante_core.specs.Answers.{Answers, wants_memory};
 ghost use Rattle.ante_core.specs.declared.StepError.TheVariants.{OutOfMemory};
-ghost use Rattle.ante_core.specs.Machine.{start, core_step, core_starved, waiting_jobs};
+ghost use Rattle.ante_core.specs.Machine.{meaning, start, core_step, core_starved, waiting_jobs};
 ghost use Rattle.ante_core.specs.Runs.{after_event};
 ghost use Rattle.ante_core.specs.Sound.{IsSound};
 
@@ -141,14 +141,14 @@ pub struct Core<A: Actor> {
 }
 
 impl<A: Actor> Model for Core<A> {
-    ghost use Rattle.ante_core.specs.Machine.{State};
+    ghost use Rattle.ante_core.specs.Machine.{State, meaning};
     ghost use Rattle.ante_core.specs.Sound.{IsSound};
 
     ghost Value = { State A.World A.Job A.Frame A.Reply };
 
     ghost view = { λ c. c.machine };
 
-    ghost invariant = { λ c. IsSound (record { applied = A.applied; begun = A.begun; advanced = A.advanced }) c.machine };
+    ghost invariant = { λ c. IsSound (meaning A.applied A.begun A.advanced) c.machine };
 }
 
 impl<A: Actor> Core<A> {
@@ -163,9 +163,9 @@ impl<A: Actor> Core<A> {
 
     /// Makes the event happen, if the table has a row for it.
     pub fn step(&mut self, alloc: Global, event: Event<A>) -> Result<(), StepError>
-        ensures answer { Answers (core_step (record { applied = A.applied; begun = A.begun; advanced = A.advanced }) self.old event) (core_starved self.old event) self.old self.new result }
-        ensures event { self.new ≡ after_event (record { applied = A.applied; begun = A.begun; advanced = A.advanced }) self.old (event, wants_memory result) }
-        ensures sound { IsSound (record { applied = A.applied; begun = A.begun; advanced = A.advanced }) self.new }
+        ensures answer { Answers (core_step (meaning A.applied A.begun A.advanced) self.old event) (core_starved self.old event) self.old self.new result }
+        ensures event { self.new ≡ after_event (meaning A.applied A.begun A.advanced) self.old (event, wants_memory result) }
+        ensures sound { IsSound (meaning A.applied A.begun A.advanced) self.new }
     {
         self.machine.step(alloc, event)
     }

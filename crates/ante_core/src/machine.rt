@@ -2,7 +2,8 @@
 
 ghost use Rattle.std.specs.Prelude.{◌≡◌, length, IfOk};
 ghost use Rattle.ante_core.specs.Answers.{Answers};
-ghost use Rattle.ante_core.specs.Machine.{start, core_step, core_starved, take_row, apply_row, begin_row, claim_row, look_row, ring_row, advance_row, cut_row, close_row, in_window, of_window, starved_advance, waiting_jobs, waiting_below, is_done};
+ghost use Rattle.ante_core.specs.Machine.{meaning, start, core_step, core_starved, starved_advance, waiting_jobs, waiting_below, is_done};
+ghost use Rattle.ante_core.specs.Machine.{take_row, apply_row, begin_row, claim_row, look_row, ring_row, advance_row, cut_row, close_row, in_window, of_window};
 
 use crate::window::{Window, advance, claim};
 use crate::{Actor, DoneJob, Event, StepError};
@@ -66,7 +67,7 @@ impl<A: Actor> Machine<A> {
 
     /// The step of `Core`.
     pub fn step(&mut self, alloc: Global, event: Event<A>) -> Result<(), StepError>
-        ensures { Answers (core_step (record { applied = A.applied; begun = A.begun; advanced = A.advanced }) self.old event) (core_starved self.old event) self.old self.new result }
+        ensures { Answers (core_step (meaning A.applied A.begun A.advanced) self.old event) (core_starved self.old event) self.old self.new result }
     {
         match event {
             Event::Take(job) => self.take(job),
@@ -92,7 +93,7 @@ impl<A: Actor> Machine<A> {
     }
 
     fn apply(&mut self, alloc: Global, write: &A::Write) -> Result<(), StepError>
-        ensures { Answers (apply_row (record { applied = A.applied; begun = A.begun; advanced = A.advanced }) self.old write.now) self.old self.old self.new result }
+        ensures { Answers (apply_row (meaning A.applied A.begun A.advanced) self.old write.now) self.old self.old self.new result }
     {
         if self.window.is_some() || self.position >= 1 << 63 {
             return Err(StepError::NotNow);
@@ -120,7 +121,7 @@ impl<A: Actor> Machine<A> {
     }
 
     fn claim(&mut self, alloc: Global, reader: u32) -> Result<(), StepError>
-        ensures { Answers (in_window self.old (claim_row (record { applied = A.applied; begun = A.begun; advanced = A.advanced }) self.old.world self.old.jobs reader)) self.old self.old self.new result }
+        ensures { Answers (in_window self.old (claim_row (meaning A.applied A.begun A.advanced) self.old.world self.old.jobs reader)) self.old self.old self.new result }
     {
         match &mut self.window {
             Some(window) => claim::<A>(alloc, window, &self.world, &self.jobs, reader),
@@ -147,7 +148,7 @@ impl<A: Actor> Machine<A> {
     }
 
     fn advance(&mut self, alloc: Global, reader: u32) -> Result<(), StepError>
-        ensures { Answers (advance_row (record { applied = A.applied; begun = A.begun; advanced = A.advanced }) self.old reader) (starved_advance self.old reader) self.old self.new result }
+        ensures { Answers (advance_row (meaning A.applied A.begun A.advanced) self.old reader) (starved_advance self.old reader) self.old self.new result }
     {
         match &mut self.window {
             Some(window) => advance::<A>(

@@ -2,7 +2,7 @@
 
 ghost use Rattle.std.specs.Prelude.{◌≡◌, IfSome, IfNone, is_some};
 ghost use Rattle.ante_core.specs.Answers.{Answers, AnswersNoMemory};
-ghost use Rattle.ante_core.specs.Machine.{held_by, claim_row, ring_row, piece_row, taken_from, cut_row};
+ghost use Rattle.ante_core.specs.Machine.{meaning, held_by, claim_row, ring_row, piece_row, taken_from, cut_row};
 ghost use Rattle.ante_core.specs.Shown.{shown_window};
 ghost use Rattle.ante_core.specs.Place.{IsAt};
 
@@ -71,7 +71,8 @@ pub fn claim<A: Actor>(
     jobs: &[A::Job],
     reader: u32,
 ) -> Result<(), StepError>
-    ensures { Answers (claim_row (record { applied = A.applied; begun = A.begun; advanced = A.advanced }) world.now jobs.now reader (shown_window window.old)) (shown_window window.old) (shown_window window.old) (shown_window window.new) result }
+    ensures { let old = shown_window window.old in
+        Answers (claim_row (meaning A.applied A.begun A.advanced) world.now jobs.now reader old) old old (shown_window window.new) result }
 {
     if place_of(&window.held, reader).is_some() {
         return Err(StepError::NotNow);
@@ -98,7 +99,8 @@ pub fn advance<A: Actor>(
     position: u64,
     reader: u32,
 ) -> Result<(), StepError>
-    ensures { Answers (piece_row (record { applied = A.applied; begun = A.begun; advanced = A.advanced }) world.now position reader (shown_window window.old, done.old.items)) (taken_from reader (shown_window window.old), done.old.items) (shown_window window.old, done.old.items) (shown_window window.new, done.new.items) result }
+    ensures { let old = shown_window window.old in
+        Answers (piece_row (meaning A.applied A.begun A.advanced) world.now position reader (old, done.old.items)) (taken_from reader old, done.old.items) (old, done.old.items) (shown_window window.new, done.new.items) result }
 {
     let Some(place) = place_of(&window.held, reader) else {
         return Err(StepError::NotNow);

@@ -9,7 +9,7 @@ use Rattle.ante_pool.specs.Seats.{whole_share, kept_half, new_half, joined, spen
 use Rattle.ante_pool.specs.Standing.{Kept, Standing, Drew, Saw, Rang, claimed, looked, ringing}
 use Rattle.ante_pool.specs.Pools.{IsTruth}
 use Rattle.ante_pool.proofs.Totals.{set_at}
-use Rattle.ante_pool.proofs.Steps.{draws, small, once_of, looks, rings_at, splits, merges, truth_silent, truth_rung}
+use Rattle.ante_pool.proofs.Steps.{draws, small, once_of, all_drawn, looks, rings_at, splits, merges, truth_silent, truth_rung}
 
 -- what a step owes where the table's words are these
 abbrev Goes : ℕ → State (Unit {0}) Known → ℕ → Me (Unit {0}) Known → ℕ → (ℕ → ℕ) → (ℕ → Me (Unit {0}) Known → Type 0) → List ℕ → Type 0
@@ -27,7 +27,11 @@ may_draw jobs slots id me part going s h _ at _ =
       keeps,
       tt,
       (h.0 + 1, h.1, ap (λ n. n ∷ h.1 ∷ []) fits, kept),
-      (refl, once_of jobs (h.0 + 1) h.1 (slice_set s.views id w) id w kept (set_at s.views id me.0 w at)),
+      (
+        refl,
+        once_of jobs (h.0 + 1) h.1 (slice_set s.views id w) id w kept (set_at s.views id me.0 w at),
+        all_drawn jobs h.0 h.1 s.views id me.0 h.3 at,
+      ),
     )
 
 pub may_look : (jobs slots id : ℕ) (me : Me (Unit {0}) Known) → 0 < me.0.share → Allows (Standing jobs) slots id me 1 (λ n. n) (Saw (step slots 1 0 0 none) me)

@@ -12,7 +12,7 @@ use Rattle.atomic_table.proofs.Lists.{at_set, at_snoc, set_else}
 use Rattle.ante_pool.specs.declared.words.Known.{Known}
 use Rattle.ante_pool.specs.declared.Looked.TheVariants.{Running, Rung}
 use Rattle.ante_pool.specs.declared.Ringing.TheVariants.{Won, Lost}
-use Rattle.ante_pool.specs.Seats.{whole_share, kept_half, new_half, joined, spent, after_claim, after_look, after_ring, times, IsOnce}
+use Rattle.ante_pool.specs.Seats.{whole_share, kept_half, new_half, joined, spent, after_claim, after_look, after_ring, times, IsOnce, AllBelow}
 use Rattle.ante_pool.specs.Standing.{total, below, ended_share, wins, rings, Fits, Kept, claimed, looked, ringing}
 use Rattle.ante_pool.specs.Pools.{IsTruth}
 use Rattle.ante_pool.proofs.Totals.{total_set, total_push, total_at, total_two, total_alone, times_append}
@@ -40,6 +40,14 @@ bit false = omega arith
 pub once_of : (jobs drawn bell : ℕ) (views : List Known) (id : ℕ) (v : Known) → Kept jobs drawn bell views → get_elem? views id ≡ some v → IsOnce v.numbers
 once_of jobs drawn bell views id v kept at x =
     let t = total_at (λ u. times x u.numbers) views id v at in let n = kept.numbers x in let b = bit (nat_lt x (min drawn jobs)) in omega arith
+
+-- a seat's numbers are below the first word
+pub all_drawn : (jobs drawn bell : ℕ) (views : List Known) (id : ℕ) (v : Known) → Kept jobs drawn bell views → get_elem? views id ≡ some v → AllBelow drawn v.numbers
+all_drawn jobs drawn bell views id v kept at x le =
+    let t = total_at (λ u. times x u.numbers) views id v at in let n = kept.numbers x in let b = none_below x (min drawn jobs) (omega arith) in omega arith
+  where
+    none_below : (x n : ℕ) → n ≤ x → below x n ≡ 0
+    none_below x n le = grind (arith, nat_tests)
 
 -- The first word
 

@@ -1,5 +1,5 @@
 -- What a seat knows, and what each call makes of it.
-use Rattle.std.specs.Prelude.{ℕ, ◌+◌, ◌-◌, ◌/◌, ◌≤◌, true, false, ◌||◌, ◌==◌, if◌then◌else◌, List, [], ◌∷◌, ◌++◌, Option, Some, None}
+use Rattle.std.specs.Prelude.{◌≡◌, ℕ, ◌+◌, ◌-◌, ◌/◌, ◌≤◌, true, false, ◌||◌, ◌==◌, if◌then◌else◌, List, [], ◌∷◌, ◌++◌, Option, Some, None}
 use Rattle.std.specs.Option.{option_or}
 use Rattle.ante_pool.specs.declared.words.Known.{Known}
 use Rattle.ante_pool.specs.declared.Looked.{Looked}
@@ -47,6 +47,10 @@ after_ring v moment (Lost m) = record v { moments = v.moments ++ m ∷ [] }
 abbrev pub times : ℕ → List ℕ → ℕ
 times x [] = 0
 times x (y ∷ ys) = (if y == x then 1 else 0) + times x ys
+
+-- all numbers of the list are below this one
+abbrev pub AllBelow : ℕ → List ℕ → Type 0
+AllBelow n xs = (x : ℕ) → n ≤ x → times x xs ≡ 0
 
 -- no number stands there twice
 abbrev pub IsOnce : List ℕ → Type 0

@@ -8,7 +8,7 @@ use Rattle.ante_pool.specs.declared.Looked.{Looked}
 use Rattle.ante_pool.specs.declared.Looked.TheVariants.{Running, Rung}
 use Rattle.ante_pool.specs.declared.Ringing.{Ringing}
 use Rattle.ante_pool.specs.declared.Ringing.TheVariants.{Won, Lost}
-use Rattle.ante_pool.specs.Seats.{whole_share, after_claim, after_look, after_ring, times, IsOnce}
+use Rattle.ante_pool.specs.Seats.{whole_share, after_claim, after_look, after_ring, times, IsOnce, AllBelow}
 
 -- f of each seat, added up
 abbrev pub total : (Known → ℕ) → List Known → ℕ
@@ -65,7 +65,7 @@ ringing found = if found == 0 then Won else Lost (found - 1)
 
 -- What a claim, a look and a ring tell their seat: of the step, the seat before, the word found and the seat after
 abbrev pub Drew : Step (Unit {0}) → Me (Unit {0}) Known → ℕ → Me (Unit {0}) Known → Type 0
-Drew step me found next = (next ≡ (after_claim me.0 (claimed me.0.jobs found), me.1)) × IsOnce next.0.numbers
+Drew step me found next = (next ≡ (after_claim me.0 (claimed me.0.jobs found), me.1)) × IsOnce next.0.numbers × AllBelow found me.0.numbers
 
 abbrev pub Saw : Step (Unit {0}) → Me (Unit {0}) Known → ℕ → Me (Unit {0}) Known → Type 0
 Saw step me found next = (next ≡ (after_look me.0 (looked found), me.1)) × All (λ m. found ≡ m + 1) me.0.moments × IsOnce next.0.numbers

@@ -8,7 +8,7 @@
 ghost use Rattle.std.specs.Prelude.{◌≡◌, ℕ, ◌<◌, ◌≤◌, ◌^◌, false, All, IsOk, IfOk, IfSome};
 ghost use Rattle.ante_pool.specs.declared.Looked.TheVariants.{Rung};
 ghost use Rattle.ante_pool.specs.declared.Ringing.TheVariants.{Lost};
-ghost use Rattle.ante_pool.specs.Seats.{whole_share, first_seat, kept_half, new_half, joined, after_claim, after_look, after_ring, IsOnce};
+ghost use Rattle.ante_pool.specs.Seats.{whole_share, first_seat, kept_half, new_half, joined, after_claim, after_look, after_ring, IsOnce, AllBelow};
 ghost use Rattle.ante_pool.specs.Pools.{IsSeatOf, IsTruth};
 
 #[cfg(test)]
@@ -124,6 +124,7 @@ impl Pool {
         ensures known { seat.new.known ≡ after_claim seat.old.known result }
         ensures job { IfSome result (λ n. n < self.now.jobs) }
         ensures once { IsOnce seat.new.known.numbers }
+        ensures rises { IfSome result (λ n. AllBelow n seat.old.known.numbers) }
     {
         let found = self.table.shared.fetch_add::<Draw>(&mut seat.seat, 0, 1);
         if found < self.jobs as u64 {

@@ -2,3 +2,6 @@ mod Looking
 mod Running
 mod Joining
 mod Halving
+mod Taking
+mod Closing
+mod Serving

@@ -2,3 +2,7 @@
 pub mod Watching
 pub mod Stops
 pub mod Reads
+pub mod Fates
+pub mod Schedule
+pub mod Windows
+pub mod InCore

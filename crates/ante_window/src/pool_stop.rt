@@ -1,3 +1,4 @@
+ghost use Rattle.std.specs.Prelude.{◌≡◌};
 ghost use Rattle.ante_pool.specs.Pools.{IsSeatOf};
 
 use ante_base::{Clock, Stop};
@@ -10,7 +11,10 @@ pub struct PoolStop<'a, C> {
     pub clock: &'a C,
     pub deadline: u64,
     pub seat: PoolSeat,
+    /// The moment with which this reader rang the bell, where it was the first.
+    pub won: Option<u64>,
     pub ghost here: { IsSeatOf pool.now seat },
+    pub ghost rang: { won ≡ seat.known.won },
 }
 
 impl<'a, C: Clock> Stop for PoolStop<'a, C> {
@@ -30,7 +34,10 @@ impl<'a, C: Clock> Stop for PoolStop<'a, C> {
             return None;
         }
         match self.pool.ring(&mut self.seat, moment) {
-            Ringing::Won => Some(moment),
+            Ringing::Won => {
+                self.won = Some(moment);
+                Some(moment)
+            }
             Ringing::Lost { at } => Some(at),
         }
     }

@@ -4,9 +4,9 @@ ghost use Rattle.ante_pool.specs.Seats.{whole_share};
 ghost use Rattle.std.specs.Thread.{IsSync};
 ghost use Rattle.ante_window.specs.Watching.{Watches, Claims, IsOver};
 ghost use Rattle.ante_window.specs.Stops.{IsSameStop};
-ghost use Rattle.ante_window.specs.Reads.{IsAnswer, IsOutcome, IsRun, IsFresh, IsBrought, IsReport, Goes};
+ghost use Rattle.ante_window.specs.Reads.{IsAnswer, IsOutcome, IsRun, IsFresh, IsBy, IsBellOf, IsBrought, Goes};
 
-use crate::outcome::{Entry, Outcome};
+use crate::outcome::{Bell, Entry, Outcome};
 use crate::pool_stop::PoolStop;
 use ante_base::{Clock, Gate, GatePoint, Stop};
 use ante_pool::{Pool, PoolSeat};
@@ -77,6 +77,8 @@ pub struct Window<'a, S: ReadState, C, G> {
 pub struct Brought<R> {
     pub seat: PoolSeat,
     pub log: Vec<Entry<R>>,
+    /// Its ring, where that was the first.
+    pub bell: Option<Bell>,
 }
 
 /// Claims a job and reads it, and says whether there was one.
@@ -91,7 +93,9 @@ fn read_next<S: ReadState, C: Clock, G: Gate>(
     requires clock { (stop.old.clock.now ≡ window.now.clock.now) × (stop.old.deadline ≡ window.now.deadline) }
     requires run { IsRun (S.answer window.now.state.now) window.now.jobs.now (C.told window.now.clock.now) window.now.deadline stop.old.seat.known log.old.items }
     requires going { stop.old.seat.known.ended ≡ false }
+    requires by { IsBy (λ r. r ≡ reader) log.old.items }
     ensures same { IsSameStop stop.old stop.new }
+    ensures by { IfOk result (λ more. IsBy (λ r. r ≡ reader) log.new.items) }
     ensures run { IfOk result (λ more. IsRun (S.answer window.now.state.now) window.now.jobs.now (C.told window.now.clock.now) window.now.deadline stop.new.seat.known log.new.items) }
     ensures goes { IfOk result (λ more. Goes stop.old.seat.known more stop.new.seat.known) }
 {
@@ -109,6 +113,16 @@ fn read_next<S: ReadState, C: Clock, G: Gate>(
     Ok(true)
 }
 
+/// The ring of this reader.
+fn bell_of(reader: u32, won: Option<u64>) -> Option<Bell>
+    ensures { IsBellOf (λ r. r ≡ reader) won result }
+{
+    match won {
+        Some(moment) => Some(Bell { reader, moment }),
+        None => None,
+    }
+}
+
 /// Claims jobs and reads them, until none is left or the time is over.
 pub fn read_alone<S: ReadState, C: Clock, G: Gate>(
     alloc: Global,
@@ -119,8 +133,7 @@ pub fn read_alone<S: ReadState, C: Clock, G: Gate>(
     requires here { IsSeatOf window.now.pool.now seat }
     requires fresh { IsFresh seat.known }
     ensures here { IfOk result (λ b. IsSeatOf window.now.pool.now b.seat × (b.seat.known.share ≡ seat.known.share)) }
-    ensures run { IfOk result (λ b. IsRun (S.answer window.now.state.now) window.now.jobs.now (C.told window.now.clock.now) window.now.deadline b.seat.known b.log.items) }
-    ensures over { IfOk result (λ b. IsOver b.seat.known) }
+    ensures brought { IfOk result (λ b. IsBrought (S.answer window.now.state.now) window.now.jobs.now (C.told window.now.clock.now) window.now.deadline (λ r. r ≡ reader) b.seat.known b.log.items b.bell) }
 {
     let mut log = Vec::new(alloc);
     let mut stop = PoolStop {
@@ -128,6 +141,7 @@ pub fn read_alone<S: ReadState, C: Clock, G: Gate>(
         clock: window.clock,
         deadline: window.deadline,
         seat,
+        won: None,
     };
     for _ in 0..u64::MAX {
         if !read_next(alloc, window, &mut stop, &mut log, reader)? {
@@ -136,8 +150,10 @@ pub fn read_alone<S: ReadState, C: Clock, G: Gate>(
                 clock: _,
                 deadline: _,
                 seat,
+                won,
             } = stop;
-            return Ok(Brought { seat, log });
+            let bell = bell_of(reader, won);
+            return Ok(Brought { seat, log, bell });
         }
     }
     unreachable!()

@@ -1,0 +1,11 @@
+//! Windows that real threads run.
+#![tactic(auto)]
+
+#[cfg(test)]
+mod bench;
+#[cfg(test)]
+mod jobs;
+#[cfg(test)]
+mod rows;
+#[cfg(test)]
+mod tables;
