@@ -1,0 +1,5 @@
+pub mod Empty
+pub mod Numbers
+pub mod ObjectBodies
+pub mod Texts
+pub mod Members
