@@ -97,17 +97,6 @@ const OTHERS: [(Step, &str); 16] = [
     (Undo, "ok 0 0 2ce368f2ef319052"),
 ];
 
-// The first account over its quota after each step, with its usage and its quota.
-const OVER: [(Step, Option<(u64, u64, i64)>); 7] = [
-    (Begin, None),
-    (Quota(2, 100), None),
-    (Store(0, 5, 2, 1), Some((2, 225, 100))),
-    (Quota(1, 5), Some((2, 225, 100))),
-    (Store(1, 5, 1, 1), Some((1, 225, 5))),
-    (Begin, None),
-    (Undo, Some((1, 225, 5))),
-];
-
 #[test]
 fn a_row_and_another_come_and_go(rt: HostRuntime) -> Result<(), AllocError> {
     check(&rt, rt.alloc(), &ROWS)
@@ -154,16 +143,5 @@ fn what_is_written_may_be_read(rt: HostRuntime) -> Result<(), AllocError> {
     let tables = Writing(&mut store);
     assert!(rt; tables.writes());
     assert_eq!(rt; tables.store().sessions(), 0);
-    Ok(())
-}
-
-#[test]
-fn the_first_account_over_its_quota_is_found(rt: HostRuntime) -> Result<(), AllocError> {
-    let alloc = rt.alloc();
-    let mut trial = Trial::new(alloc)?;
-    for (step, wanted) in OVER {
-        assert_eq!(rt; trial.call(alloc, step)?, Some(Ok(())), "{step:?}");
-        assert_eq!(rt; trial.first_over(), wanted, "{step:?}");
-    }
     Ok(())
 }

@@ -116,18 +116,6 @@ impl Trial {
         }
     }
 
-    // The first account over its quota in the newest session, with its usage and its quota.
-    pub(crate) fn first_over(&self) -> Option<(u64, u64, i64)> {
-        self.store.worlds_hold();
-        if self.store.sessions() == 0 {
-            return None;
-        }
-        match self.store.usage().first_over() {
-            Some((account, used, quota)) => Some((account.0, used, quota)),
-            None => None,
-        }
-    }
-
     // What the accounts 1 and 2 use, and the first eight bytes of the digest.
     pub(crate) fn write_state(&self, alloc: Global, text: &mut String) -> Result<(), AllocError> {
         let first = self.store.usage().used(Name(1));
