@@ -2,7 +2,6 @@
 ghost use Rattle.std.specs.Prelude.{◌≡◌, ℕ, ◌≤◌, [], length, reverse, Ok, IfOk};
 ghost use Rattle.ante_wtree.specs.Trees.{tree_of};
 ghost use Rattle.ante_wtree.specs.Limits.{most_frames};
-ghost use Rattle.ante_wtree.specs.Replies.{AnswersTyped};
 ghost use Rattle.ante_wvalid.specs.Modules.{IsValid};
 ghost use Rattle.ante_wmeaning.specs.Environment.{Throughout, CountsLooks, undisturbed, Passes, AskedLast};
 ghost use Rattle.ante_wmeaning.specs.Instantiation.{program_in, apply_in};
@@ -19,7 +18,7 @@ use crate::run::invoke;
 use crate::thread::Thread;
 use ante_base::Stop;
 use ante_stack::Stack;
-use ante_wmeaning::{RunEnd, TrapKind, imports_have_host_types};
+use ante_wmeaning::{RunEnd, TrapKind};
 use ante_wmem::Host;
 use ante_wtree::Module;
 use ante_wtree::limits::most_frames;
@@ -230,6 +229,7 @@ fn run_module<H: Host, P: Stop>(
 pub struct Machine;
 
 impl Machine {
+    /// A machine. It keeps nothing.
     pub fn new() -> Machine {
         Machine
     }
@@ -251,8 +251,8 @@ impl Machine {
     ) -> Result<RunEnd<H::Refusal>, AllocError>
         // The host allows each import, with all arguments of its type.
         requires allowed { MayCall H.allowed (program_in (tree_of module.now)) host.old left.old }
-        // Each of the host's functions answers as one of its type does.
-        requires answers { AnswersTyped H.allowed H.meaning }
+        // The host answers each import as a function of its type does.
+        requires answers { ImportsTyped H.allowed H.meaning (program_in (tree_of module.now)) }
         ensures ends { Throughout P.may stop.old stop.new (λ before after.
             RunAnswers H.stands (run_of H.meaning (tree_of module.now) args host.old left.old before) result host.new left.new after
             × CountsLooks (P.looks stop.old) (P.looks stop.new) before after) }
@@ -269,7 +269,6 @@ impl Machine {
         ensures limit { result ≡ Ok RunEnd.StepLimit → left.new ≡ 0 }
         ensures falls { left.new ≤ left.old }
     {
-        imports_have_host_types(module);
         run_module(alloc, module.module(), &args, host, stop, left)
     }
 }

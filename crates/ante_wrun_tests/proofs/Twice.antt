@@ -7,7 +7,9 @@ use Rattle.ante_wmem.specs.HostCalls.{HostMeaning}
 use Rattle.ante_wmem.specs.declared.host.HostAnswer.TheVariants as answer
 use Rattle.ante_wtree.specs.declared.instructions.ValueKind.{ValueKind}
 use Rattle.ante_wtree.specs.Intrinsics.{type_at}
+use Rattle.ante_wtree.specs.Replies.{IsReplyOf, AnswersTyped}
 use Rattle.ante_wtree.specs.Trees.{Tree}
+use Rattle.ante_wtree.proofs.Replies.{result_reply_typed}
 use Rattle.ante_wmeaning.specs.declared.ends.RunEnd.{RunEnd}
 use Rattle.ante_wmeaning.specs.declared.ends.RunEnd.TheVariants as end
 use Rattle.ante_wmeaning.specs.Configurations.{Outcome, Normal, Branch, Returned, Ended, Lacks, InHost, Stuck}
@@ -28,8 +30,12 @@ zero_alike holder None v n m h = (n, h, refl)
 zero_alike holder (Some (params, None)) v n m h = (n, h, refl)
 zero_alike holder (Some (params, Some kind)) v n m h = (n, h, refl)
 
-abbrev counting : HostMeaning Counted ℕ
+abbrev pub counting : HostMeaning Counted ℕ
 counting host function args memory left = counted host function memory left
+
+pub counting_typed : AnswersTyped (λ host function args left. Unit {0}) counting
+counting_typed number params result args v memory left type fit allowed =
+    subst (λ t. IsReplyOf result (zero_of t (record v { count = one_more v.count }) memory)) (sym type) (result_reply_typed Counted ℕ result 0 (record v { count = one_more v.count }) memory)
 
 counts_alike : (holder : ℕ) → ReplyAlike (Same holder) counting counts
 counts_alike holder v n number args memory left h =

@@ -7,6 +7,7 @@ ghost use Rattle.ante_wmem.specs.Keeping.{always_kept};
 ghost use Rattle.ante_wrun_tests.specs.Counting.{Counted, counted, Leads};
 
 use ante_base::NeverStop;
+use ante_wmeaning::imports_have_host_types;
 use ante_wmem::Memory;
 use ante_wrun::{Host, HostAnswer, HostFn, Machine, RunEnd};
 use ante_wtree::host_type;
@@ -85,6 +86,7 @@ fn run_once<C: Counter>(
     ensures count { IfOk result (λ end. Leads (tree_of module.now) steps host.old.count end host.new.count) }
 {
     let mut left = steps;
+    imports_have_host_types(module);
     Machine::new().run(alloc, module, [1, 2, 3], host, &mut NeverStop, &mut left)
 }
 

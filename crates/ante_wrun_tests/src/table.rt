@@ -4,6 +4,7 @@ use crate::player::{Note, Player};
 use crate::words::{Row, read_row};
 use ante_base::AtLook;
 use ante_wdecode::decode;
+use ante_wmeaning::imports_have_host_types;
 use ante_wrun::Machine;
 use ante_wvalid::{ValidModule, validate};
 use std::alloc::Global;
@@ -64,6 +65,7 @@ impl Table {
         let mut host = Player::new(alloc, row.plays);
         let mut stop = stop(row.look);
         let mut left = row.left;
+        imports_have_host_types(module);
         match self
             .machine
             .run(alloc, module, row.args, &mut host, &mut stop, &mut left)

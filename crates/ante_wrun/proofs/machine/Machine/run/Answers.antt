@@ -7,7 +7,6 @@ use Rattle.ante_wmeaning.specs.Invocation.{run_of}
 use Rattle.ante_wmeaning.specs.RunEnds.{RunAnswers}
 use Rattle.ante_wmeaning.proofs.Answered.{counted, comes, cuts, uncut, limit, undisturbed_ends}
 use Rattle.ante_wmeaning.proofs.Falls.{run_lowers}
-use Rattle.ante_wmeaning.proofs.GivenTypes.{imports_typed}
 use Rattle.ante_wmeaning.proofs.Looking.{none_yet, run_quiet}
 use Rattle.ante_wrun.proofs.machine.Machine.run.Goals as goal
 
@@ -15,8 +14,7 @@ pub run_module-requires-clause-allowed : goal.run_module-requires-clause-allowed
 run_module-requires-clause-allowed g c = subst (λ m. MayCall g.H.Host.allowed (program_in (tree_of m)) c.args.host.now c.args.left.now) (sym c.module.ensures.module) c.requires.allowed
 
 pub run_module-requires-clause-answers : goal.run_module-requires-clause-answers
-run_module-requires-clause-answers g c = subst (λ m. ImportsTyped g.H.Host.allowed g.H.Host.meaning (program_in (tree_of m))) (sym c.module.ensures.module)
-    (imports_typed g.H.Host.allowed g.H.Host.meaning (program_in (tree_of c.args.module.now)) c.imports_have_host_types.ensures c.requires.answers)
+run_module-requires-clause-answers g c = subst (λ m. ImportsTyped g.H.Host.allowed g.H.Host.meaning (program_in (tree_of m))) (sym c.module.ensures.module) c.requires.answers
 
 pub returns-clause-ends : goal.returns-clause-ends
 returns-clause-ends g c =
