@@ -2,7 +2,7 @@
 use Rattle.std.specs.Prelude.{ℕ, List, [], codes, Option, Some, None, is_some, false, if◌then◌else◌, Result, Ok, Err}
 use Rattle.serde_json.specs.Data.{Data}
 use Rattle.serde_json.specs.Find.{get, as_object}
-use Rattle.ante_pack.specs.Forms.{whole}
+use Rattle.ante_pack.specs.Forms.{◌>>=◌, whole}
 use Rattle.ante_types.specs.Chain.{block}
 use Rattle.ante_types.specs.Jobs.{Job, job_of}
 use Rattle.ante_views.specs.declared.queries.Seen.{Seen}
@@ -15,7 +15,7 @@ use Rattle.ante_json.specs.declared.request.Path.TheVariants as paths
 use Rattle.ante_json.specs.declared.request.ApiRequest.{ApiRequest}
 use Rattle.ante_json.specs.declared.request.ApiRequest.TheVariants as requests
 use Rattle.ante_json.specs.Kinds.{number_of, name_of, bound_of, limit_of, flag_of, block_of, texts_of}
-use Rattle.ante_json.specs.Fields.{◌>>=◌, required, optional, defaulted, hex_field, id_field, unpacked, uncompressed, without_context_free}
+use Rattle.ante_json.specs.Fields.{required, optional, defaulted, hex_field, id_field, unpacked, uncompressed, without_context_free}
 
 abbrev pub block_query : Data → Result ViewQuery BodyKind
 block_query body =

@@ -5,6 +5,7 @@ use Rattle.hex.specs.Hex.{decode_of, decode_sized}
 use Rattle.hex.specs.declared.error.FromHexError.{FromHexError}
 use Rattle.serde_json.specs.Data.{Data}
 use Rattle.serde_json.specs.Find.{get, as_str}
+use Rattle.ante_pack.specs.Forms.{◌>>=◌}
 use Rattle.ante_pack.specs.declared.fault.PackFault.{PackFault}
 use Rattle.ante_pack.specs.declared.fault.PackFault.TheVariants.{Short, LongVaruint, KeyKind, Trailing}
 use Rattle.ante_json.specs.declared.fault.BodyKind.{BodyKind}
@@ -12,12 +13,6 @@ use Rattle.ante_json.specs.declared.fault.BodyKind.TheVariants.{Missing, Wrong, 
 use Rattle.ante_json.specs.declared.fault.BodyError.{BodyError}
 use Rattle.ante_json.specs.declared.fault.BodyError.TheVariants.{OutOfMemory, BadBody}
 use Rattle.ante_json.specs.Kinds.{is_no_compression, is_empty_text}
-
--- one field after another: the first at fault is answered
-infixl 10 ◌>>=◌
-abbrev pub ◌>>=◌ : {A B : Type 0} → Result A BodyKind → (A → Result B BodyKind) → Result B BodyKind
-(Ok x) >>= f = f x
-(Err kind) >>= f = Err kind
 
 abbrev pub or_wrong : {A : Type 0} → List ℕ → Option A → Result A BodyKind
 or_wrong field None = Err (Wrong field)

@@ -2,6 +2,7 @@
 use Rattle.std.proofs.Common.{◌≡◌, ℕ, List, Option, Some, None, Result, Ok, Err, refl, sym, ap, subst, ◌∙◌, inl, inr}
 use Rattle.std.specs.Prelude.{◌⊎◌}
 use Rattle.std.specs.Io.KnownBytes.{Appends}
+use Rattle.ante_pack.specs.Forms.{◌>>=◌}
 use Rattle.ante_node.specs.declared.command.Command.TheVariants.{Ask}
 use Rattle.ante_node.specs.declared.fault.InputFault.{InputFault}
 use Rattle.ante_node.specs.declared.fault.RequestFault.{RequestFault}
@@ -9,7 +10,7 @@ use Rattle.ante_node.specs.declared.fault.RequestFault.TheVariants.{Words, Input
 use Rattle.ante_node.specs.declared.fault.NodeFault.{NodeFault}
 use Rattle.ante_node.specs.declared.fault.NodeFault.TheVariants as faults
 use Rattle.ante_types.specs.Jobs.{Job}
-use Rattle.ante_node.specs.Requests.{◌>>=◌, Tells, node_fault, requested}
+use Rattle.ante_node.specs.Requests.{Tells, node_fault, requested}
 use Rattle.ante_node.specs.Ask.{Asks, HasAnswered, answer, asked_of}
 use Rattle.ante_node.proofs.Packing.{asked_packs}
 use Rattle.ante_node.specs.Commands.{ComesTo, made_by}

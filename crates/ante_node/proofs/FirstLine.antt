@@ -11,6 +11,7 @@ use Rattle.hex.specs.declared.error.FromHexError.{FromHexError}
 use Rattle.hex.specs.declared.error.FromHexError.TheVariants as hex_errors
 use Rattle.hex.specs.Hex.{decode_of, is_hex_digit}
 use Rattle.hex.proofs.HexLemmas.{decode_of-err, decode_of-odd}
+use Rattle.ante_pack.specs.Forms.{◌>>=◌}
 use Rattle.ante_node.specs.declared.fault.InputFault.{InputFault}
 use Rattle.ante_node.specs.declared.fault.InputKind.TheVariants as kinds
 use Rattle.ante_types.specs.Jobs.{Job}
@@ -18,7 +19,7 @@ use Rattle.ante_node.specs.Limits.{item_limit, line_limit, input_limit}
 use Rattle.ante_node.specs.Lines.{TextLine, IsHexFault, decoded, hex_place, is_newline, job_in, line_at, line_end}
 use Rattle.ante_base.specs.declared.failure.ReadFailure.{ReadFailure}
 use Rattle.ante_base.specs.declared.failure.ReadFailure.TheVariants as reads
-use Rattle.ante_node.specs.Requests.{◌>>=◌, Answers, Tells, input_fault, of_source}
+use Rattle.ante_node.specs.Requests.{Answers, Tells, input_fault, of_source}
 use Rattle.ante_node.specs.declared.failure.AnswerFailure.{AnswerFailure}
 use Rattle.ante_node.specs.declared.failure.AnswerFailure.TheVariants as failures
 use Rattle.ante_node.specs.Ask.{asked_of}

@@ -6,7 +6,7 @@ use Rattle.hex.specs.declared.error.FromHexError.{FromHexError}
 use Rattle.hex.proofs.HexLemmas.{decode_of-ok}
 use Rattle.ante_pack.specs.declared.fault.PackFault.{PackFault}
 use Rattle.ante_pack.specs.Forms as forms
-use Rattle.ante_pack.specs.Forms.{IsBytes, Packs, whole}
+use Rattle.ante_pack.specs.Forms.{◌>>=◌, IsBytes, Packs, whole}
 use Rattle.ante_pack.proofs.Consequences.{reads_whole}
 use Rattle.ante_types.specs.declared.chain.Transaction.{Transaction}
 use Rattle.ante_types.specs.Chain.{transaction}
@@ -15,12 +15,12 @@ use Rattle.ante_types.specs.Jobs.{Job, job_of}
 use Rattle.ante_node.specs.declared.fault.InputFault.{InputFault}
 use Rattle.ante_node.specs.declared.fault.InputKind.TheVariants as kinds
 use Rattle.ante_node.specs.Limits.{item_limit, line_limit}
-use Rattle.ante_node.specs.Requests.{◌>>=◌, input_fault}
+use Rattle.ante_node.specs.Requests.{input_fault}
 use Rattle.ante_node.specs.Lines.{TextLine, line_at, line_end, decoded, unpacked, job_in, ends_input}
 use Rattle.ante_node.specs.Ask.{asked_of}
 
 of_whole : (packed : List ℕ) (r : Result Transaction PackFault) (job : Job) → IsBytes packed → whole transaction packed ≡ r →
-    unpacked (forms.◌>>=◌ r (λ trx. Ok (record { packed = packed; trx = trx }))) ≡ Ok job → Packs transaction job.trx job.packed
+    unpacked (r >>= λ trx. Ok (record { packed = packed; trx = trx })) ≡ Ok job → Packs transaction job.trx job.packed
 of_whole packed (Ok trx) job fits e h =
     let one : Job = record { packed = packed; trx = trx } in
     let same : one ≡ job = cc in

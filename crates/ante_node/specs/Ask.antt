@@ -1,13 +1,12 @@
 -- What `ask` makes of its input: one line, which spells a transaction.
 use Rattle.std.specs.Prelude.{◌≡◌, ℕ, List, ◌++◌, codes, Option, Result, Ok, IfSome}
 use Rattle.std.specs.Io.KnownBytes.{Appends}
-use Rattle.ante_pack.specs.Forms.{Packs}
+use Rattle.ante_pack.specs.Forms.{◌>>=◌, Packs}
 use Rattle.ante_types.specs.Chain.{transaction}
 use Rattle.ante_types.specs.Genesis.{builtin_genesis, genesis_head}
 use Rattle.ante_types.specs.Traces.{trace_json}
 use Rattle.ante_types.specs.Jobs.{Job}
 use Rattle.ante_node.specs.Lines.{line_at, job_in, ends_input}
-use Rattle.ante_node.specs.Requests.{◌>>=◌}
 use Rattle.ante_node.specs.ReadOnly.{builtin_world, read_only}
 use Rattle.ante_node.specs.declared.fault.InputFault.{InputFault}
 

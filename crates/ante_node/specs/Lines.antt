@@ -5,10 +5,11 @@ use Rattle.std.specs.List.{position_or_len, before_first}
 use Rattle.hex.specs.Hex.{decode_of, is_hex_digit}
 use Rattle.hex.specs.declared.error.FromHexError.{FromHexError}
 use Rattle.hex.specs.declared.error.FromHexError.TheVariants as hex_errors
+use Rattle.ante_pack.specs.Forms.{◌>>=◌}
 use Rattle.ante_pack.specs.declared.fault.PackFault.{PackFault}
 use Rattle.ante_types.specs.Jobs.{Job, job_of}
 use Rattle.ante_node.specs.Limits.{item_limit, line_limit}
-use Rattle.ante_node.specs.Requests.{◌>>=◌, input_fault, pack_fault}
+use Rattle.ante_node.specs.Requests.{input_fault, pack_fault}
 use Rattle.ante_node.specs.declared.fault.InputFault.{InputFault}
 use Rattle.ante_node.specs.declared.fault.InputKind.TheVariants as kinds
 

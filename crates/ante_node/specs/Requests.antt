@@ -1,5 +1,6 @@
 -- What is wrong with a request: the first fault of its words and its input; and what a call answers that looks for it.
 use Rattle.std.specs.Prelude.{◌≡◌, ℕ, List, Option, Result, Ok, Err, IfSome}
+use Rattle.ante_pack.specs.Forms.{◌>>=◌}
 use Rattle.ante_base.specs.declared.failure.ReadFailure.{ReadFailure}
 use Rattle.ante_base.specs.declared.failure.ReadFailure.TheVariants as reads
 use Rattle.ante_pack.specs.declared.fault.PackFault.{PackFault}
@@ -15,12 +16,6 @@ use Rattle.ante_node.specs.declared.fault.NodeFault.{NodeFault}
 use Rattle.ante_node.specs.declared.fault.NodeFault.TheVariants as faults
 use Rattle.ante_node.specs.declared.failure.AnswerFailure.{AnswerFailure}
 use Rattle.ante_node.specs.declared.failure.AnswerFailure.TheVariants as failures
-
--- one step after another, up to the first fault
-infixl 10 ◌>>=◌
-abbrev pub ◌>>=◌ : {A B : Type 0} → Result A InputFault → (A → Result B InputFault) → Result B InputFault
-(Ok x) >>= f = f x
-(Err fault) >>= f = Err fault
 
 abbrev pub input_fault : ℕ → InputKind → InputFault
 input_fault at kind = record { at = at; kind = kind }

@@ -21,10 +21,11 @@ pub record Form (A : Type 0) : Type 1 where
   pub Fits : A → Type 0
   pub read : Cursor → Result (A × Cursor) PackFault
 
+-- one step after another, up to the first fault
 infixl 10 ◌>>=◌
-abbrev pub ◌>>=◌ : {A B : Type 0} → Result A PackFault → (A → Result B PackFault) → Result B PackFault
+abbrev pub ◌>>=◌ : {A B E : Type 0} → Result A E → (A → Result B E) → Result B E
 (Ok x) >>= f = f x
-(Err e) >>= f = Err e
+(Err fault) >>= f = Err fault
 
 -- the next n bytes
 abbrev pub bytes_at : ℕ → Cursor → Result (List ℕ × Cursor) PackFault

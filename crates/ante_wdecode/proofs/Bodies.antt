@@ -8,7 +8,7 @@ use Rattle.ante_wtree.specs.declared.modules.FuncType.{FuncType}
 use Rattle.ante_wtree.specs.declared.modules.Code.{Code}
 use Rattle.ante_wtree.specs.Trees.{Body, body_of}
 use Rattle.ante_wdecode.specs.declared.fault.Unread.{Unread}
-use Rattle.ante_wdecode.specs.Leb128.{◌>>=◌}
+use Rattle.ante_pack.specs.Forms.{◌>>=◌}
 use Rattle.ante_wdecode.specs.Rules.{Read, Fails, limited}
 use Rattle.ante_wdecode.specs.Opcodes.{value_type}
 use Rattle.ante_wdecode.specs.Modules.{groups, code, params_of, codes}

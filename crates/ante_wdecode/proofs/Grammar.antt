@@ -9,7 +9,7 @@ use Rattle.ante_wtree.specs.Expressions.{Expression, Over, Plain, Block, Loop, I
 use Rattle.ante_wdecode.specs.declared.fault.DecodeKind.TheVariants as kind
 use Rattle.ante_wdecode.specs.declared.opcodes.Opcode.{Opcode}
 use Rattle.ante_wdecode.specs.declared.opcodes.Opcode.TheVariants as opcode
-use Rattle.ante_wdecode.specs.Leb128.{◌>>=◌}
+use Rattle.ante_pack.specs.Forms.{◌>>=◌}
 use Rattle.ante_wdecode.specs.Rules.{Fault, Ended, At, Read, among}
 use Rattle.ante_wdecode.specs.Opcodes.{IsOpcodeOf, an_opcode}
 use Rattle.ante_wdecode.specs.Instructions.{Before, completes, IsSingle, indexed_of, kind_byte, block_types, block_type, Spells, IsExpression}

@@ -2,9 +2,10 @@
 use Rattle.std.proofs.Common.{◌≡◌, ◌⊎◌, ℕ, ◌+◌, ◌-◌, ◌*◌, ◌%◌, ◌^◌, ◌<◌, ◌≤◌, Bool, true, false, cond, nat_lt, List, [], ◌∷◌, ◌++◌, Option, None, Some, Result, Ok, Err, refl, sym, ap, ◌∙◌, arith, inl, inr, ⊎_elim}
 use Rattle.std.proofs.lemmas.Bool.{ltb-false, ltb-true, lt-ltb, le-ltb}
 use Rattle.std.proofs.lemmas.Nat.{pow-add}
+use Rattle.ante_pack.specs.Forms.{◌>>=◌}
 use Rattle.ante_wdecode.specs.declared.integers.Misread.{Misread}
 use Rattle.ante_wdecode.specs.declared.integers.Misread.TheVariants.{Short, Leb}
-use Rattle.ante_wdecode.specs.Leb128.{last_value, more_value, IsLeb, IsCut, ◌>>=◌, ends_with, leb_at}
+use Rattle.ante_wdecode.specs.Leb128.{last_value, more_value, IsLeb, IsCut, ends_with, leb_at}
 use Rattle.ante_wdecode.specs.Faults.{IsMisspelled}
 
 abbrev pub done : {A : Type 0} → A → Result A Misread

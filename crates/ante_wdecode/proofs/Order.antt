@@ -4,6 +4,7 @@ use Rattle.std.specs.Prelude.{bytes_eq}
 use Rattle.std.proofs.lemmas.Bool.{ltb-true, ltb-false, le-ltb, eqb-true, eq-eqb}
 use Rattle.std.proofs.lemmas.List.{length-append, take_at}
 use Rattle.std.proofs.lemmas.Slice.Eq.{bytes_eq-Decides}
+use Rattle.ante_pack.specs.Forms.{◌>>=◌}
 use Rattle.ante_wtree.specs.Limits.{most_module_bytes, most_types, most_imports, most_functions, most_table_elements, most_globals, most_exports, most_element_segments, most_data_segments}
 use Rattle.ante_wtree.specs.Trees.{Tree}
 use Rattle.ante_wdecode.specs.declared.fault.DecodeKind.{DecodeKind}
@@ -11,7 +12,7 @@ use Rattle.ante_wdecode.specs.declared.fault.DecodeKind.TheVariants as kind
 use Rattle.ante_wdecode.specs.declared.fault.DecodeError.TheVariants as error
 use Rattle.ante_wdecode.specs.declared.sections.SectionId.{SectionId}
 use Rattle.ante_wdecode.specs.declared.sections.SectionId.TheVariants as id
-use Rattle.ante_wdecode.specs.Leb128.{◌>>=◌, IsU32, IsCut, u32_at}
+use Rattle.ante_wdecode.specs.Leb128.{IsU32, IsCut, u32_at}
 use Rattle.ante_wdecode.specs.Rules.{Fault, Ended, At, Read, Rule, yields, in_turn, or_fault, among, one_of, raw, filling, misfit_of, u32}
 use Rattle.ante_wdecode.specs.Faults.{Shows}
 use Rattle.ante_wdecode.specs.Instructions.{vector}

@@ -6,7 +6,7 @@ use Rattle.ante_wtree.specs.Expressions.{Expression, cons, expression_of, Over, 
 use Rattle.ante_wdecode.specs.declared.fault.Unread.{Unread}
 use Rattle.ante_wdecode.specs.declared.fault.Unread.TheVariants as unread
 use Rattle.ante_wdecode.specs.declared.opcodes.Opcode.{Opcode}
-use Rattle.ante_wdecode.specs.Leb128.{◌>>=◌}
+use Rattle.ante_pack.specs.Forms.{◌>>=◌}
 use Rattle.ante_wdecode.specs.Rules.{Fault, Read, Fails}
 use Rattle.ante_wdecode.specs.Opcodes.{an_opcode}
 use Rattle.ante_wdecode.specs.Instructions.{block_type}

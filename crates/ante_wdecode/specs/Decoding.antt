@@ -1,5 +1,6 @@
 -- What is read of a whole module, and what its faults say.
 use Rattle.std.specs.Prelude.{◌≡◌, ◌⊎◌, ℕ, zero, suc, ◌+◌, ◌<◌, ◌≤◌, List, [], ◌∷◌, ◌++◌, length, take, Result, Ok, Err, nat_eq, nat_lt, bytes_eq, if◌then◌else◌}
+use Rattle.ante_pack.specs.Forms.{◌>>=◌}
 use Rattle.ante_wtree.specs.declared.modules.Module.{Module}
 use Rattle.ante_wtree.specs.Limits.{most_module_bytes}
 use Rattle.ante_wtree.specs.Trees.{Tree, tree_of}
@@ -9,7 +10,7 @@ use Rattle.ante_wdecode.specs.declared.fault.DecodeError.{DecodeError}
 use Rattle.ante_wdecode.specs.declared.fault.DecodeError.TheVariants as error
 use Rattle.ante_wdecode.specs.declared.fault.Unread.{Unread}
 use Rattle.ante_wdecode.specs.declared.fault.Unread.TheVariants as unread
-use Rattle.ante_wdecode.specs.Leb128.{◌>>=◌, IsU32, IsCut}
+use Rattle.ante_wdecode.specs.Leb128.{IsU32, IsCut}
 use Rattle.ante_wdecode.specs.Rules.{Fault, Ended, At, raw}
 use Rattle.ante_wdecode.specs.Faults.{Shows}
 use Rattle.ante_wdecode.specs.Sections.{bare, with_section, last_after, section, magic, version}

@@ -1,6 +1,7 @@
 -- Integers in LEB128 (section 5.2.2). Their values are words of 64 bits, a negative one in two's complement.
 use Rattle.std.specs.Prelude.{◌≡◌, ℕ, ◌+◌, ◌-◌, ◌*◌, ◌%◌, ◌^◌, ◌<◌, ◌≤◌, Bool, true, false, List, [], ◌∷◌, length, Option, None, Some, Result, Ok, Err, nat_lt, if◌then◌else◌}
 use Rattle.std.specs.List.{AllByRecursion}
+use Rattle.ante_pack.specs.Forms.{◌>>=◌}
 use Rattle.ante_wdecode.specs.declared.integers.Misread.{Misread}
 use Rattle.ante_wdecode.specs.declared.integers.Misread.TheVariants.{Short, Leb}
 
@@ -37,11 +38,6 @@ abbrev pub IsCut : (bits : ℕ) → List ℕ → Type 0
 IsCut bits bytes = (7 * length bytes < bits) × AllByRecursion (λ b. 128 ≤ b) bytes
 
 -- ---- what is read
-
-infixl 10 ◌>>=◌
-abbrev pub ◌>>=◌ : {A B E : Type 0} → Result A E → (A → Result B E) → Result B E
-(Ok x) >>= f = f x
-(Err e) >>= f = Err e
 
 abbrev pub ends_with : Option ℕ → List ℕ → Result (ℕ × List ℕ) Misread
 ends_with None rest = Err Leb

@@ -7,7 +7,7 @@ use Rattle.ante_wdecode.specs.declared.opcodes.Opcode.TheVariants as opcode
 use Rattle.ante_wdecode.specs.declared.fault.DecodeKind.TheVariants as kind
 use Rattle.ante_wdecode.specs.declared.nested.Part.{Part}
 use Rattle.ante_wdecode.specs.declared.nested.Part.TheVariants as part
-use Rattle.ante_wdecode.specs.Leb128.{◌>>=◌}
+use Rattle.ante_pack.specs.Forms.{◌>>=◌}
 use Rattle.ante_wdecode.specs.Rules.{Fault, Ended, At, Read, Rule}
 use Rattle.ante_wdecode.specs.Opcodes.{an_opcode}
 use Rattle.ante_wdecode.specs.Instructions.{completes, block_type, IsExpression}

@@ -1,13 +1,14 @@
 -- Rules of the binary format. A rule says which bytes stand for which value, and what is read at the front of some bytes, or
 -- else the first fault and its place.
 use Rattle.std.specs.Prelude.{◌≡◌, ℕ, zero, suc, ◌+◌, ◌≤◌, Bool, true, false, List, [], ◌∷◌, ◌++◌, length, take, drop, Option, None, Some, Result, Ok, Err, nat_eq, nat_lt, if◌then◌else◌}
+use Rattle.ante_pack.specs.Forms.{◌>>=◌}
 use Rattle.ante_wdecode.specs.declared.fault.DecodeKind.{DecodeKind}
 use Rattle.ante_wdecode.specs.declared.fault.DecodeKind.TheVariants as kind
 use Rattle.ante_wdecode.specs.declared.fault.Unread.{Unread}
 use Rattle.ante_wdecode.specs.declared.fault.Unread.TheVariants as unread
 use Rattle.ante_wdecode.specs.declared.integers.Misread.{Misread}
 use Rattle.ante_wdecode.specs.declared.integers.Misread.TheVariants as misread
-use Rattle.ante_wdecode.specs.Leb128.{◌>>=◌, IsU32, IsS32, IsS64, u32_at, s32_at, s64_at}
+use Rattle.ante_wdecode.specs.Leb128.{IsU32, IsS32, IsS64, u32_at, s32_at, s64_at}
 
 -- What is wrong with some bytes: the item that begins with the last `left` of them isn't whole, or is at fault.
 pub data Fault : Type 0 where

@@ -1,7 +1,7 @@
 use Rattle.std.proofs.Common.{ℕ, ◌-◌, List, length, Ok, sym, ap, ◌∙◌, arith}
 use Rattle.std.proofs.lemmas.Result.{err_from_is_err_and}
 use Rattle.ante_wtree.specs.Expressions.{expression_of, cons, If}
-use Rattle.ante_wdecode.specs.Leb128.{◌>>=◌}
+use Rattle.ante_pack.specs.Forms.{◌>>=◌}
 use Rattle.ante_wdecode.specs.Rules.{Read}
 use Rattle.ante_wdecode.specs.NestedInstructions.{Item, closed, body_at, block_of, block_at, if_at, deeper, one, item_at, item_of, inside, seq_at}
 use Rattle.ante_wdecode.proofs.Grammar.{kind_shorter, seq_shorter, item_shorter, opcode_shorter}

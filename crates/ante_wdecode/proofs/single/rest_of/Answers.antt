@@ -1,6 +1,6 @@
 use Rattle.std.proofs.Common.{sym, ap, ◌∙◌}
 use Rattle.ante_wtree.specs.Expressions.{Plain}
-use Rattle.ante_wdecode.specs.Leb128.{◌>>=◌}
+use Rattle.ante_pack.specs.Forms.{◌>>=◌}
 use Rattle.ante_wdecode.specs.Instructions.{indexed_of, completes}
 use Rattle.ante_wdecode.proofs.Laws.{ok}
 use Rattle.ante_wdecode.proofs.single.rest_of.Goals as goal
