@@ -54,6 +54,7 @@ impl Model for CountClock {
 }
 
 impl CountClock {
+    /// A clock that tells `start` first and then `by` more at each reading, both in microseconds.
     pub fn new(start: u64, by: u64) -> CountClock
         requires start { start < 2 ^ 63 }
         requires by { 1 ≤ by }
@@ -96,6 +97,7 @@ pub struct SystemClock<'a, R> {
 }
 
 impl<'a, R> SystemClock<'a, R> {
+    /// The system's clock, through `rt`.
     pub fn new(rt: &'a R) -> SystemClock<'a, R> {
         SystemClock { rt }
     }

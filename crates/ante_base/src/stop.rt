@@ -81,7 +81,8 @@ impl AtLook {
 }
 
 impl Stop for AtLook {
-    ghost may = { λ old answer new. (answer ≡ (if old.looks == old.number then Some old.moment else None)) × (new ≡ record old { looks = looked old.looks 1 }) };
+    ghost may = { λ old answer new. (answer ≡ (if old.looks == old.number then Some old.moment else None)) ×
+        (new ≡ record old { looks = looked old.looks 1 }) };
 
     ghost looks = { λ stop. Some stop.looks };
 

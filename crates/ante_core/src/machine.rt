@@ -35,6 +35,7 @@ impl<A: Actor> Model for Machine<A> {
 }
 
 impl<A: Actor> Machine<A> {
+    /// A core at this world, with no jobs and outside of a window.
     pub fn new(alloc: Global, world: A::World) -> Machine<A>
         ensures { result ≡ start world }
     {
@@ -47,18 +48,21 @@ impl<A: Actor> Machine<A> {
         }
     }
 
+    /// The jobs that were answered, each with its position and reply, in the order of their ends.
     pub fn done(&self) -> &[DoneJob<A::Reply>]
         ensures { result.now ≡ self.now.done }
     {
         &self.done
     }
 
+    /// The number of writes that were applied.
     pub fn position(&self) -> u64
         ensures { result ≡ self.now.position }
     {
         self.position
     }
 
+    /// The number of jobs that no reader has.
     pub fn waiting(&self) -> usize
         ensures { result ≡ length (waiting_jobs self.now) }
     {
@@ -121,7 +125,8 @@ impl<A: Actor> Machine<A> {
     }
 
     fn claim(&mut self, alloc: Global, reader: u32) -> Result<(), StepError>
-        ensures { Answers (in_window self.old (claim_row (meaning A.applied A.begun A.advanced) self.old.world self.old.jobs reader)) self.old self.old self.new result }
+        ensures { Answers (in_window self.old (claim_row (meaning A.applied A.begun A.advanced) self.old.world self.old.jobs reader))
+            self.old self.old self.new result }
     {
         match &mut self.window {
             Some(window) => claim::<A>(alloc, window, &self.world, &self.jobs, reader),

@@ -100,7 +100,8 @@ pub fn advance<A: Actor>(
     reader: u32,
 ) -> Result<(), StepError>
     ensures { let old = shown_window window.old in
-        Answers (piece_row (meaning A.applied A.begun A.advanced) world.now position reader (old, done.old.items)) (taken_from reader old, done.old.items) (old, done.old.items) (shown_window window.new, done.new.items) result }
+        Answers (piece_row (meaning A.applied A.begun A.advanced) world.now position reader (old, done.old.items))
+        (taken_from reader old, done.old.items) (old, done.old.items) (shown_window window.new, done.new.items) result }
 {
     let Some(place) = place_of(&window.held, reader) else {
         return Err(StepError::NotNow);

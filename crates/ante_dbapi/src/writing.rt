@@ -46,7 +46,8 @@ fn make<T: Tables>(
     requires writing { T.writing tables.old ≡ true }
     requires ready { ReadyFor run.now.mode (T.stack tables.old) (T.writing tables.old) }
     ensures answer { Makes misplaced change result (T.stack tables.old).top (T.stack tables.new).top }
-    ensures base { base_of (T.stack tables.new) (T.writing tables.new) (T.lent tables.new) ≡ base_of (T.stack tables.old) (T.writing tables.old) (T.lent tables.old) }
+    ensures base { base_of (T.stack tables.new) (T.writing tables.new) (T.lent tables.new) ≡
+        base_of (T.stack tables.old) (T.writing tables.old) (T.lent tables.old) }
 {
     match tables.write(alloc, change) {
         Ok(()) => Ok(()),
@@ -92,7 +93,8 @@ fn put_row<T: Tables>(
     requires room_for_table { length iters.old.tables + 1 < 2 ^ 31 }
     requires room_for_row { length iters.old.rows < 2 ^ 31 }
     ensures answer { Gives (stores key payer id bytes) result (T.stack tables.old) (T.stack tables.new) iters.old iters.new }
-    ensures base { base_of (T.stack tables.new) (T.writing tables.new) (T.lent tables.new) ≡ base_of (T.stack tables.old) (T.writing tables.old) (T.lent tables.old) }
+    ensures base { base_of (T.stack tables.new) (T.writing tables.new) (T.lent tables.new) ≡
+        base_of (T.stack tables.old) (T.writing tables.old) (T.lent tables.old) }
 {
     let (met_tables, met_rows) = iters.met();
     let Ok(it) = meet_both(alloc, iters, key, id) else {
@@ -135,7 +137,8 @@ pub fn db_store_i64<T: Tables>(
     requires room_for_table { length iters.old.tables + 1 < 2 ^ 31 }
     requires room_for_row { length iters.old.rows < 2 ^ 31 }
     ensures answer { Gives (store primary_kind run.now scope table payer id bytes.now) result (T.stack tables.old) (T.stack tables.new) iters.old iters.new }
-    ensures base { base_of (T.stack tables.new) (T.writing tables.new) (T.lent tables.new) ≡ base_of (T.stack tables.old) (T.writing tables.old) (T.lent tables.old) }
+    ensures base { base_of (T.stack tables.new) (T.writing tables.new) (T.lent tables.new) ≡
+        base_of (T.stack tables.old) (T.writing tables.old) (T.lent tables.old) }
 {
     if !tables.writes() {
         return Err(DbFault::WriteRefused);
@@ -204,7 +207,8 @@ pub fn db_update_i64<T: Tables>(
 ) -> Result<(), DbFault>
     requires ready { ReadyFor run.now.mode (T.stack tables.old) (T.writing tables.old) }
     ensures answer { Gives (update primary_kind run.now it payer bytes.now) result (T.stack tables.old) (T.stack tables.new) iters.old iters.new }
-    ensures base { base_of (T.stack tables.new) (T.writing tables.new) (T.lent tables.new) ≡ base_of (T.stack tables.old) (T.writing tables.old) (T.lent tables.old) }
+    ensures base { base_of (T.stack tables.new) (T.writing tables.new) (T.lent tables.new) ≡
+        base_of (T.stack tables.old) (T.writing tables.old) (T.lent tables.old) }
 {
     if !tables.writes() {
         return Err(DbFault::WriteRefused);
@@ -240,7 +244,8 @@ pub fn db_remove_i64<T: Tables>(
 ) -> Result<(), DbFault>
     requires ready { ReadyFor run.now.mode (T.stack tables.old) (T.writing tables.old) }
     ensures answer { Gives (remove primary_kind run.now it) result (T.stack tables.old) (T.stack tables.new) iters.old iters.new }
-    ensures base { base_of (T.stack tables.new) (T.writing tables.new) (T.lent tables.new) ≡ base_of (T.stack tables.old) (T.writing tables.old) (T.lent tables.old) }
+    ensures base { base_of (T.stack tables.new) (T.writing tables.new) (T.lent tables.new) ≡
+        base_of (T.stack tables.old) (T.writing tables.old) (T.lent tables.old) }
 {
     if !tables.writes() {
         return Err(DbFault::WriteRefused);

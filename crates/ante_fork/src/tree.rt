@@ -76,6 +76,7 @@ impl ForkTree {
         })
     }
 
+    /// The id of the head.
     pub fn head(&self) -> Digest
         ensures head { result ≡ self.now.head }
         ensures sound { IsTree self.now }
@@ -83,6 +84,7 @@ impl ForkTree {
         self.head
     }
 
+    /// The number below which no block of the head's branch is taken back.
     pub fn irreversible(&self) -> u32
         ensures { result ≡ self.now.irreversible }
     {

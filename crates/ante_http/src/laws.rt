@@ -23,7 +23,8 @@ pub fn bad_stays()
 
 /// A request is found as soon as its bytes are there.
 pub fn a_request_is_its_bytes()
-    ensures { (bytes more : List ℕ) (request : RequestSpan) (n : ℕ) → n ≤ length bytes → IsRequest (bytes ++ more) request n → IsRequest bytes request n }
+    ensures { (bytes more : List ℕ) (request : RequestSpan) (n : ℕ) → n ≤ length bytes →
+        IsRequest (bytes ++ more) request n → IsRequest bytes request n }
 {}
 
 /// Each front of a request that lacks a byte needs more.

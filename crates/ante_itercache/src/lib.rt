@@ -190,7 +190,11 @@ impl Iters {
 
     fn add_row(&mut self, key: RowKey) -> Result<(), AllocError>
         requires { position (is_row key.table key.primary) self.old.rows ≡ None }
-        ensures ok { OnOk result (self.new ≡ record { tables = self.old.tables; rows = self.old.rows ++ record { table = key.table; primary = key.primary; live = true } ∷ [] }) }
+        ensures ok { OnOk result (self.new ≡ record {
+          tables = self.old.tables;
+          rows = self.old.rows ++
+              record { table = key.table; primary = key.primary; live = true } ∷ [];
+        }) }
         ensures err { OnErr result (self.new ≡ self.old) }
     {
         let place = self.rows.as_slice().len();

@@ -21,6 +21,7 @@ pub enum BodyKind {
     Packed { at: u64 },
 }
 
+/// Why a body isn't read.
 #[derive(Debug, Drop)]
 pub enum BodyError {
     OutOfMemory,

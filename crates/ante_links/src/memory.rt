@@ -41,7 +41,16 @@ impl Model for MemLink {
 
     ghost Value = { LinkState };
 
-    ghost view = { λ s. record { left = drop s.at s.input.items; written = s.written.items; faults = s.faults; read_waits = s.read_waits; write_waits = s.write_waits; reads = s.reads; is_over = s.is_over; last = s.last } };
+    ghost view = { λ s. record {
+      left = drop s.at s.input.items;
+      written = s.written.items;
+      faults = s.faults;
+      read_waits = s.read_waits;
+      write_waits = s.write_waits;
+      reads = s.reads;
+      is_over = s.is_over;
+      last = s.last;
+    } };
 
     ghost invariant = { λ s. (s.at ≤ length s.input.items) × (1 ≤ s.piece) × (s.is_over ≡ true → drop s.at s.input.items ≡ []) };
 }

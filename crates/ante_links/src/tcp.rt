@@ -33,7 +33,16 @@ impl<T> Model for TcpLink<T> {
 
     ghost Value = { LinkState };
 
-    ghost view = { λ s. record { left = []; written = []; faults = s.faults; read_waits = s.read_waits; write_waits = s.write_waits; reads = s.reads; is_over = s.is_over; last = s.last } };
+    ghost view = { λ s. record {
+      left = [];
+      written = [];
+      faults = s.faults;
+      read_waits = s.read_waits;
+      write_waits = s.write_waits;
+      reads = s.reads;
+      is_over = s.is_over;
+      last = s.last;
+    } };
 }
 
 /// One read of the stream.
@@ -192,6 +201,7 @@ fn open<R: Net>(rt: &R, port: u16) -> Option<R::Listener> {
 }
 
 impl<'a, R: Net> TcpLinks<'a, R> {
+    /// No links, and no port that is listened at.
     pub fn new(rt: &'a R, alloc: Global) -> TcpLinks<'a, R>
         ensures { result ≡ record { given = []; coming = []; door = record { faults = 0; waits = 0 } } }
     {

@@ -70,7 +70,8 @@ fn perform<R: Source, S: Sink>(
     files: &mut R,
     out: &mut S,
 ) -> NodeFault
-    ensures ends { MadeOf command (R.left files.old) (λ made. RunEnds result (Rose (R.faults files.old) (R.faults files.new)) (S.written out.old) (S.written out.new)
+    ensures ends { MadeOf command (R.left files.old) (λ made. RunEnds result (Rose (R.faults files.old) (R.faults files.new))
+        (S.written out.old) (S.written out.new)
         (Rose (S.faults out.old) (S.faults out.new)) (IsAtEnd (R.left files.new)) (requested made)) }
     ensures bounded { TakesAtMost input_limit (R.left files.old) (R.left files.new) }
 {
@@ -113,13 +114,16 @@ pub fn run_offline<R: Source, S: Sink>(
     ensures applied { result.applied ≡ [] }
 
     // Which fault, and what was written.
-    ensures fault { ComesTo (map string_bytes words.now) (R.left files.old) (EndsWith result.fault (Rose (R.faults files.old) (R.faults files.new)) (Rose (S.faults out.old) (S.faults out.new))) }
-    ensures written { ComesTo (map string_bytes words.now) (R.left files.old) (HasWritten result.fault (S.written out.old) (S.written out.new) (Rose (S.faults out.old) (S.faults out.new))) }
+    ensures fault { ComesTo (map string_bytes words.now) (R.left files.old)
+        (EndsWith result.fault (Rose (R.faults files.old) (R.faults files.new)) (Rose (S.faults out.old) (S.faults out.new))) }
+    ensures written { ComesTo (map string_bytes words.now) (R.left files.old)
+        (HasWritten result.fault (S.written out.old) (S.written out.new) (Rose (S.faults out.old) (S.faults out.new))) }
 
     ensures ended { result.fault ≡ NodeFault.Nothing → IsAtEnd (R.left files.new) }
 
     // Words are refused exactly where they aren't accepted, and then the source stands as it was.
-    ensures bad_words { (at : ℕ) → IsBadWord (map string_bytes words.now) at → (result.fault ≡ NodeFault.BadWords at) ⊎ (result.fault ≡ NodeFault.OutOfMemory) }
+    ensures bad_words { (at : ℕ) → IsBadWord (map string_bytes words.now) at →
+        (result.fault ≡ NodeFault.BadWords at) ⊎ (result.fault ≡ NodeFault.OutOfMemory) }
     ensures untouched { (at : ℕ) → IsBadWord (map string_bytes words.now) at → files.new ≡ files.old }
     ensures bounded { TakesAtMost input_limit (R.left files.old) (R.left files.new) }
 {
@@ -143,14 +147,18 @@ pub fn run_node<R: Source, S: Sink>(
 
     // The headline: where all went well, the input was read to its end, and what was written is the text of the trace that
     // its transaction gives alone on the built-in genesis.
-    ensures answered { result.fault ≡ NodeFault.Nothing → IsAtEnd (R.left files.new) × HasAnswered (R.left files.old) (S.written out.old) (S.written out.new) }
+    ensures answered { result.fault ≡ NodeFault.Nothing →
+        IsAtEnd (R.left files.new) × HasAnswered (R.left files.old) (S.written out.old) (S.written out.new) }
 
     // Which fault, and what was written. A source or a sink is blamed only where its count of faults rose.
-    ensures fault { ComesTo (map string_bytes words.now) (R.left files.old) (EndsWith result.fault (Rose (R.faults files.old) (R.faults files.new)) (Rose (S.faults out.old) (S.faults out.new))) }
-    ensures written { ComesTo (map string_bytes words.now) (R.left files.old) (HasWritten result.fault (S.written out.old) (S.written out.new) (Rose (S.faults out.old) (S.faults out.new))) }
+    ensures fault { ComesTo (map string_bytes words.now) (R.left files.old)
+        (EndsWith result.fault (Rose (R.faults files.old) (R.faults files.new)) (Rose (S.faults out.old) (S.faults out.new))) }
+    ensures written { ComesTo (map string_bytes words.now) (R.left files.old)
+        (HasWritten result.fault (S.written out.old) (S.written out.new) (Rose (S.faults out.old) (S.faults out.new))) }
 
     // Words are refused exactly where they aren't accepted, and then the source stands as it was.
-    ensures bad_words { (at : ℕ) → IsBadWord (map string_bytes words.now) at → (result.fault ≡ NodeFault.BadWords at) ⊎ (result.fault ≡ NodeFault.OutOfMemory) }
+    ensures bad_words { (at : ℕ) → IsBadWord (map string_bytes words.now) at →
+        (result.fault ≡ NodeFault.BadWords at) ⊎ (result.fault ≡ NodeFault.OutOfMemory) }
     ensures untouched { (at : ℕ) → IsBadWord (map string_bytes words.now) at → files.new ≡ files.old }
 
     ensures bounded { TakesAtMost input_limit (R.left files.old) (R.left files.new) }

@@ -25,6 +25,7 @@ pub struct ObjectsMap {
     pub references: Entries<u16, Digest>,
 }
 
+/// What holds of each map of objects.
 pub struct ObjectsRule;
 
 impl Rule<Parts> for ObjectsRule {

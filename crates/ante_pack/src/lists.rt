@@ -19,6 +19,7 @@ impl Model for Bytes {
 }
 
 impl Bytes {
+    /// No bytes. Takes no memory.
     pub fn new(alloc: Global) -> Bytes
         ensures { result ≡ [] }
     {
@@ -34,6 +35,7 @@ impl Bytes {
         Bytes { bytes }
     }
 
+    /// A copy of the slice's bytes.
     pub fn from_slice(alloc: Global, bytes: &[u8]) -> Result<Bytes, AllocError>
         ensures { IfOk result (λ copy. copy ≡ bytes.now) }
     {
@@ -120,6 +122,7 @@ impl<T> Model for Seq<T> {
 }
 
 impl<T> Seq<T> {
+    /// No items. Takes no memory.
     pub fn new(alloc: Global) -> Seq<T>
         ensures { result ≡ [] }
     {

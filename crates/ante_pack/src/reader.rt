@@ -28,6 +28,7 @@ impl<'a> Model for PackReader<'a> {
 }
 
 impl<'a> PackReader<'a> {
+    /// A reader at the first of these bytes.
     pub fn new(bytes: &'a [u8]) -> PackReader<'a>
         ensures { result ≡ record { at = 0; rest = bytes.now } }
     {
@@ -63,6 +64,7 @@ impl<'a> PackReader<'a> {
         Ok(front)
     }
 
+    /// One byte.
     #[tactic(auto, unfolding(crate::specs::Packed::u8))]
     pub fn u8(&mut self) -> Result<u8, PackFault>
         ensures { ReadsField (λ n. n) result self.old self.new (forms.u8.read self.old) }
@@ -71,6 +73,7 @@ impl<'a> PackReader<'a> {
         Ok(front[0])
     }
 
+    /// Two bytes, the lowest first.
     #[tactic(auto, unfolding(crate::specs::Packed::u16))]
     pub fn u16(&mut self) -> Result<u16, PackFault>
         ensures { ReadsField (λ n. n) result self.old self.new (forms.u16.read self.old) }
@@ -79,6 +82,7 @@ impl<'a> PackReader<'a> {
         Ok(u16::from_le_bytes([front[0], front[1]]))
     }
 
+    /// Four bytes, the lowest first.
     #[tactic(auto, unfolding(crate::specs::Packed::u32))]
     pub fn u32(&mut self) -> Result<u32, PackFault>
         ensures { ReadsField (λ n. n) result self.old self.new (forms.u32.read self.old) }
@@ -87,6 +91,7 @@ impl<'a> PackReader<'a> {
         Ok(u32::from_le_bytes([front[0], front[1], front[2], front[3]]))
     }
 
+    /// Eight bytes, the lowest first.
     #[tactic(auto, unfolding(crate::specs::Packed::u64))]
     pub fn u64(&mut self) -> Result<u64, PackFault>
         ensures { ReadsField (λ n. n) result self.old self.new (forms.u64.read self.old) }
@@ -97,6 +102,7 @@ impl<'a> PackReader<'a> {
         ]))
     }
 
+    /// A name as its number, eight bytes.
     #[tactic(auto, unfolding(crate::specs::Packed::name))]
     pub fn name(&mut self) -> Result<Name, PackFault>
         ensures { ReadsField (λ n. n) result self.old self.new (forms.name.read self.old) }
@@ -127,6 +133,7 @@ impl<'a> PackReader<'a> {
         Ok(bytes)
     }
 
+    /// 32 bytes as they stand.
     #[tactic(auto, unfolding(crate::specs::Packed::digest))]
     pub fn digest(&mut self) -> Result<Digest, PackFault>
         ensures { ReadsField (λ n. n) result self.old self.new (forms.digest.read self.old) }

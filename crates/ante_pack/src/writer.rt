@@ -24,6 +24,7 @@ impl Model for PackWriter {
 }
 
 impl PackWriter {
+    /// A writer with no bytes. Takes no memory.
     pub fn new(alloc: Global) -> PackWriter
         ensures { result ≡ [] }
     {
@@ -40,6 +41,7 @@ impl PackWriter {
         self.bytes.extend_from_slice(bytes)
     }
 
+    /// One byte.
     #[tactic(auto, unfolding(crate::specs::Packed::u8))]
     pub fn put_u8(&mut self, alloc: Global, value: u8) -> Result<(), AllocError>
         ensures ok { OnOk result (Adds self.old self.new (forms.u8.spell value)) }
@@ -48,6 +50,7 @@ impl PackWriter {
         self.put_raw(alloc, &value.to_le_bytes())
     }
 
+    /// Two bytes, the lowest first.
     #[tactic(auto, unfolding(crate::specs::Packed::u16))]
     pub fn put_u16(&mut self, alloc: Global, value: u16) -> Result<(), AllocError>
         ensures ok { OnOk result (Adds self.old self.new (forms.u16.spell value)) }
@@ -56,6 +59,7 @@ impl PackWriter {
         self.put_raw(alloc, &value.to_le_bytes())
     }
 
+    /// Four bytes, the lowest first.
     #[tactic(auto, unfolding(crate::specs::Packed::u32))]
     pub fn put_u32(&mut self, alloc: Global, value: u32) -> Result<(), AllocError>
         ensures ok { OnOk result (Adds self.old self.new (forms.u32.spell value)) }
@@ -64,6 +68,7 @@ impl PackWriter {
         self.put_raw(alloc, &value.to_le_bytes())
     }
 
+    /// Eight bytes, the lowest first.
     #[tactic(auto, unfolding(crate::specs::Packed::u64))]
     pub fn put_u64(&mut self, alloc: Global, value: u64) -> Result<(), AllocError>
         ensures ok { OnOk result (Adds self.old self.new (forms.u64.spell value)) }
@@ -72,6 +77,7 @@ impl PackWriter {
         self.put_raw(alloc, &value.to_le_bytes())
     }
 
+    /// A name as its number, eight bytes.
     #[tactic(auto, unfolding(crate::specs::Packed::name))]
     pub fn put_name(&mut self, alloc: Global, value: Name) -> Result<(), AllocError>
         ensures ok { OnOk result (Adds self.old self.new (forms.name.spell value)) }
@@ -102,6 +108,7 @@ impl PackWriter {
         append_both(&mut self.bytes, front, value)
     }
 
+    /// 32 bytes as they stand.
     #[tactic(auto, unfolding(crate::specs::Packed::digest))]
     pub fn put_digest(&mut self, alloc: Global, value: &Digest) -> Result<(), AllocError>
         ensures ok { OnOk result (Adds self.old self.new (forms.digest.spell value.now)) }
@@ -110,6 +117,7 @@ impl PackWriter {
         self.put_raw(alloc, value)
     }
 
+    /// 34 bytes as they stand.
     #[tactic(auto, unfolding(crate::specs::Packed::key))]
     pub fn put_key(&mut self, alloc: Global, value: &Key) -> Result<(), AllocError>
         ensures ok { OnOk result (Adds self.old self.new (forms.key.spell value.now)) }
@@ -126,6 +134,7 @@ impl PackWriter {
         Bytes::from_vec(bytes)
     }
 
+    /// What was written so far.
     pub fn as_slice(&self) -> &[u8]
         ensures { result.now ≡ self.now }
     {

@@ -40,6 +40,7 @@ pub struct Rest {
 pub(crate) type Parts = Both<Layered<Name, Share>, Layered<u64, Rest>>;
 
 // Only the shares are seen.
+/// What holds of usage and of its sum.
 pub struct UsageRule;
 
 impl Rule<Parts> for UsageRule {

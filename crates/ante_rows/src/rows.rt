@@ -24,6 +24,7 @@ pub struct RowsMap {
     pub rows: Entries<RowKey, PrimaryRow>,
 }
 
+/// What holds of the rows.
 pub struct RowsRule;
 
 impl Rule<Parts> for RowsRule {

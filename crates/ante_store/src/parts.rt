@@ -18,6 +18,7 @@ pub struct Maps {
     pub usage: Entries<Name, Share>,
 }
 
+/// What holds of the maps of a store.
 pub struct MapsRule;
 
 impl Rule<Both<Both<Rows, Objects>, Usage>> for MapsRule {

@@ -41,6 +41,7 @@ impl ReadJob {
         Ok(ReadJob { packed, trx })
     }
 
+    /// The bytes that the transaction was read from.
     pub fn packed(&self) -> &Bytes
         ensures { result.now ≡ self.now.packed }
     {

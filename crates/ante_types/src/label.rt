@@ -25,6 +25,7 @@ impl Model for Label {
 }
 
 impl Label {
+    /// A label of a text that is printable ASCII without quotes and backslashes.
     pub fn new(alloc: Global, text: &[u8]) -> Result<Label, AllocError>
         requires { IsTrue (is_label text.now) }
         ensures { IfOk result (λ label. label ≡ text.now) }
@@ -44,6 +45,7 @@ impl Label {
         Ok(Label { text })
     }
 
+    /// The text.
     pub fn as_slice(&self) -> &[u8]
         ensures text { result.now ≡ self.now }
         ensures is_label { IsTrue (is_label self.now) }

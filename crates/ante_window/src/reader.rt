@@ -91,12 +91,14 @@ fn read_next<S: ReadState, C: Clock, G: Gate>(
 ) -> Result<bool, AllocError>
     requires pool { stop.old.pool.now ≡ window.now.pool.now }
     requires clock { (stop.old.clock.now ≡ window.now.clock.now) × (stop.old.deadline ≡ window.now.deadline) }
-    requires run { IsRun (S.answer window.now.state.now) window.now.jobs.now (C.told window.now.clock.now) window.now.deadline stop.old.seat.known log.old.items }
+    requires run { IsRun (S.answer window.now.state.now) window.now.jobs.now (C.told window.now.clock.now) window.now.deadline
+        stop.old.seat.known log.old.items }
     requires going { stop.old.seat.known.ended ≡ false }
     requires by { IsBy (λ r. r ≡ reader) log.old.items }
     ensures same { IsSameStop stop.old stop.new }
     ensures by { IfOk result (λ more. IsBy (λ r. r ≡ reader) log.new.items) }
-    ensures run { IfOk result (λ more. IsRun (S.answer window.now.state.now) window.now.jobs.now (C.told window.now.clock.now) window.now.deadline stop.new.seat.known log.new.items) }
+    ensures run { IfOk result (λ more. IsRun (S.answer window.now.state.now) window.now.jobs.now (C.told window.now.clock.now)
+        window.now.deadline stop.new.seat.known log.new.items) }
     ensures goes { IfOk result (λ more. Goes stop.old.seat.known more stop.new.seat.known) }
 {
     let Some(job) = claim_one(stop) else {
@@ -133,7 +135,8 @@ pub fn read_alone<S: ReadState, C: Clock, G: Gate>(
     requires here { IsSeatOf window.now.pool.now seat }
     requires fresh { IsFresh seat.known }
     ensures here { IfOk result (λ b. IsSeatOf window.now.pool.now b.seat × (b.seat.known.share ≡ seat.known.share)) }
-    ensures brought { IfOk result (λ b. IsBrought (S.answer window.now.state.now) window.now.jobs.now (C.told window.now.clock.now) window.now.deadline (λ r. r ≡ reader) b.seat.known b.log.items b.bell) }
+    ensures brought { IfOk result (λ b. IsBrought (S.answer window.now.state.now) window.now.jobs.now (C.told window.now.clock.now)
+        window.now.deadline (λ r. r ≡ reader) b.seat.known b.log.items b.bell) }
 {
     let mut log = Vec::new(alloc);
     let mut stop = PoolStop {

@@ -18,10 +18,13 @@ fn together<S: ReadState, C: Clock, G: Gate>(
     one: Brought<S::Reply>,
     _last: u32,
 ) -> Result<Brought<S::Reply>, AllocError>
-    requires all { IsSeatOf window.now.pool.now all.seat × IsBrought (S.answer window.now.state.now) window.now.jobs.now (C.told window.now.clock.now) window.now.deadline (λ r. r < _last) all.seat.known all.log.items all.bell }
-    requires one { IsSeatOf window.now.pool.now one.seat × IsBrought (S.answer window.now.state.now) window.now.jobs.now (C.told window.now.clock.now) window.now.deadline (λ r. r ≡ _last) one.seat.known one.log.items one.bell }
+    requires all { IsSeatOf window.now.pool.now all.seat × IsBrought (S.answer window.now.state.now) window.now.jobs.now
+        (C.told window.now.clock.now) window.now.deadline (λ r. r < _last) all.seat.known all.log.items all.bell }
+    requires one { IsSeatOf window.now.pool.now one.seat × IsBrought (S.answer window.now.state.now) window.now.jobs.now
+        (C.told window.now.clock.now) window.now.deadline (λ r. r ≡ _last) one.seat.known one.log.items one.bell }
     ensures here { IfOk result (λ b. IsSeatOf window.now.pool.now b.seat × (b.seat.known.share ≡ all.seat.known.share + one.seat.known.share)) }
-    ensures brought { IfOk result (λ b. IsBrought (S.answer window.now.state.now) window.now.jobs.now (C.told window.now.clock.now) window.now.deadline (λ r. r < _last + 1) b.seat.known b.log.items b.bell) }
+    ensures brought { IfOk result (λ b. IsBrought (S.answer window.now.state.now) window.now.jobs.now (C.told window.now.clock.now)
+        window.now.deadline (λ r. r < _last + 1) b.seat.known b.log.items b.bell) }
 {
     let Brought {
         mut seat,
@@ -52,7 +55,8 @@ pub fn read_all<R: Threads + Sync, S: ReadState + Sync, C: Clock + Sync, G: Gate
     requires readers { 1 ≤ readers }
     requires share { 2 ^ readers ≤ seat.known.share }
     ensures here { IfOk result (λ b. IsSeatOf window.now.pool.now b.seat × (b.seat.known.share ≡ seat.known.share)) }
-    ensures brought { IfOk result (λ b. IsBrought (S.answer window.now.state.now) window.now.jobs.now (C.told window.now.clock.now) window.now.deadline (λ r. r < readers) b.seat.known b.log.items b.bell) }
+    ensures brought { IfOk result (λ b. IsBrought (S.answer window.now.state.now) window.now.jobs.now (C.told window.now.clock.now)
+        window.now.deadline (λ r. r < readers) b.seat.known b.log.items b.bell) }
 {
     if readers == 1 {
         return read_alone(alloc, window, seat, 0);
@@ -65,12 +69,14 @@ pub fn read_all<R: Threads + Sync, S: ReadState + Sync, C: Clock + Sync, G: Gate
         move || -> Result<Brought<S::Reply>, AllocError>
             requires { IsSeatOf window.now.pool.now other × IsFresh other.known }
             ensures here { IfOk result (λ b. IsSeatOf window.entry.now.pool.now b.seat × (b.seat.known.share ≡ other.known.share)) }
-            ensures brought { IfOk result (λ b. IsBrought (S.answer window.entry.now.state.now) window.entry.now.jobs.now (C.told window.entry.now.clock.now) window.entry.now.deadline (λ r. r ≡ last) b.seat.known b.log.items b.bell) }
+            ensures brought { IfOk result (λ b. IsBrought (S.answer window.entry.now.state.now) window.entry.now.jobs.now
+                (C.told window.entry.now.clock.now) window.entry.now.deadline (λ r. r ≡ last) b.seat.known b.log.items b.bell) }
         { read_alone(alloc, window, other, last) },
         move || -> Result<Brought<S::Reply>, AllocError>
             requires { IsSync R.row × IsSeatOf window.now.pool.now seat × IsFresh seat.known × (2 ^ last ≤ seat.known.share) × (0 < last) }
             ensures here { IfOk result (λ b. IsSeatOf window.entry.now.pool.now b.seat × (b.seat.known.share ≡ seat.known.share)) }
-            ensures brought { IfOk result (λ b. IsBrought (S.answer window.entry.now.state.now) window.entry.now.jobs.now (C.told window.entry.now.clock.now) window.entry.now.deadline (λ r. r < last) b.seat.known b.log.items b.bell) }
+            ensures brought { IfOk result (λ b. IsBrought (S.answer window.entry.now.state.now) window.entry.now.jobs.now
+                (C.told window.entry.now.clock.now) window.entry.now.deadline (λ r. r < last) b.seat.known b.log.items b.bell) }
         { read_all(rt, alloc, window, seat, last) },
     );
     together(window, all?, one?, last)

@@ -63,7 +63,8 @@ fn block(
     kind: Option<ValueKind>,
     operands: &mut OperandTypes,
 ) -> Result<bool, AllocError>
-    ensures carries { IfOk result (λ yes. Carries (BlockTurns (context_in scope.now labels.old) label (expression_of body.now) kind) yes operands.old operands.new) }
+    ensures carries { IfOk result (λ yes. Carries (BlockTurns (context_in scope.now labels.old) label (expression_of body.now) kind) yes
+        operands.old operands.new) }
     ensures labels { IfOk result (λ _. labels.new ≡ labels.old) }
 {
     if !inner(scope, labels, alloc, label, body, kind)? {
@@ -83,7 +84,8 @@ fn choice(
     kind: Option<ValueKind>,
     operands: &mut OperandTypes,
 ) -> Result<bool, AllocError>
-    ensures carries { IfOk result (λ yes. Carries (IfTurns (context_in scope.now labels.old) (expression_of one.now) (expression_of two.now) kind) yes operands.old operands.new) }
+    ensures carries { IfOk result (λ yes. Carries (IfTurns (context_in scope.now labels.old) (expression_of one.now)
+        (expression_of two.now) kind) yes operands.old operands.new) }
     ensures labels { IfOk result (λ _. labels.new ≡ labels.old) }
 {
     if !inner(scope, labels, alloc, kind, one, kind)? {

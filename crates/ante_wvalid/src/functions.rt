@@ -21,7 +21,8 @@ fn is_there<T>(items: &[T]) -> bool
 
 /// Whether a function's body leaves its result; its one label is the result's.
 fn is_body_typed(alloc: Global, scope: &Scope<'_>, body: &[Instr]) -> Result<bool, AllocError>
-    ensures { IfOk result (λ typed. IsTrue typed ↔ Typed (context_in scope.now (scope.now.result ∷ [])) (expression_of body.now) [] (kinds_of scope.now.result)) }
+    ensures { IfOk result (λ typed. IsTrue typed ↔ Typed (context_in scope.now (scope.now.result ∷ [])) (expression_of body.now) []
+        (kinds_of scope.now.result)) }
 {
     let mut labels = Stack::new(alloc);
     labels.push(alloc, scope.result)?;
