@@ -9,7 +9,6 @@
 #![tactic(auto)]
 
 mod answers;
-mod genesis;
 mod trial;
 mod words;
 

@@ -4,8 +4,8 @@ ghost use Rattle.ante_calls.specs.Views.{ReadyFor};
 ghost use Rattle.ante_types.specs.declared.context.Mode.TheVariants as mode;
 
 use crate::answers::{print_bytes, print_done, print_number, print_row};
-use crate::genesis::builtin_store;
 use crate::words::{Call, Line, Scene, read_line};
+use ante_builtin::builtin_store;
 use ante_dbapi::{
     db_end_i64, db_find_i64, db_get_i64, db_lowerbound_i64, db_next_i64, db_previous_i64,
     db_remove_i64, db_store_i64, db_update_i64, db_upperbound_i64,

@@ -1,4 +1,6 @@
-//! The built-in genesis as a store.
+//! The built-in genesis as a value and as a store, for tests of the layers above.
+#![tactic(auto)]
+
 ghost use Rattle.std.specs.Prelude.{◌≡◌, None, IfOk};
 ghost use Rattle.ante_types.specs.Genesis.{builtin_authority, builtin_genesis};
 
@@ -22,8 +24,9 @@ fn authority(alloc: Global) -> Result<Authority, AllocError>
     })
 }
 
+/// The built-in genesis.
 #[tactic(auto, unfolding(ante_types::specs::Genesis::builtin_genesis, ante_pack::specs::Names::name_number, ante_pack::specs::Names::number_of))]
-fn builtin(alloc: Global) -> Result<Genesis, AllocError>
+pub fn genesis(alloc: Global) -> Result<Genesis, AllocError>
     ensures { IfOk result (λ genesis. genesis ≡ builtin_genesis) }
 {
     let owner = authority(alloc)?;
@@ -46,12 +49,13 @@ fn builtin(alloc: Global) -> Result<Genesis, AllocError>
     })
 }
 
+/// The store that a chain on the built-in genesis begins with.
 #[tactic(auto, unfolding(ante_types::specs::Genesis::builtin_genesis, ante_pack::specs::Names::name_number, ante_pack::specs::Names::number_of))]
 pub fn builtin_store(alloc: Global) -> Result<Store, AllocError>
     ensures shelf { IfOk result (λ store. store.shelf ≡ None) }
     ensures revision { IfOk result (λ store. store.revision ≡ 1) }
 {
-    let genesis = builtin(alloc)?;
+    let genesis = genesis(alloc)?;
     let packed = builtin_packed();
     Store::from_genesis(alloc, &genesis, packed.as_slice())
 }
