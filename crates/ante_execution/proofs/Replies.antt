@@ -40,4 +40,4 @@ call_typed indexes number params r s args m left e =
 -- so a run may ask for typed replies of the host
 pub host_typed : (indexes : Indexes) → AnswersTyped (λ h number args left. Allows h left) (host_call indexes)
 host_typed indexes number params result args h m left e fit allowed =
-    mapped_typed result (over h.base) (call indexes h.seen number args m left).reply (call_typed indexes number params result h.seen args m left e)
+    mapped_typed result (over h) (call indexes h.seen number args m left).reply (call_typed indexes number params result h.seen args m left e)

@@ -9,7 +9,7 @@ use Rattle.ante_calls.specs.ActionData.{IsPacked}
 use Rattle.ante_calls.specs.Calls.{map_reply}
 use Rattle.ante_calls.specs.Keeping.{Leaving, Fine, Grows, Goes, intrinsic_fine}
 use Rattle.ante_calls.specs.Numbers.{Indexes, intrinsic_at, intrinsic}
-use Rattle.ante_calls.specs.Views.{Seen, Base, is_writing}
+use Rattle.ante_calls.specs.Views.{Seen, is_writing}
 use Rattle.ante_execution.specs.Hosts.{sent_refusal, unless, sent_reply, is_send_inline, checked, call, HostView, over, host_call, HasRoom, Allows, Shows}
 
 -- ---- fewer steps
@@ -34,7 +34,7 @@ allows_less h left less le a = record {
 room_after : (left less : ℕ) (i j : Iterators) → less < left → Grows i j → HasRoom left i → HasRoom less j
 room_after left less i j lt g r = record { tables = omega (arith, lt, g.tables, r.tables); rows = omega (arith, lt, g.rows, r.rows) }
 
-allows_after : (h : HostView) (s : Seen) (left less : ℕ) → less < left → Goes h.seen s → Allows h left → Allows (over h.base s) less
+allows_after : (h : HostView) (s : Seen) (left less : ℕ) → less < left → Goes h.seen s → Allows h left → Allows (over h s) less
 allows_after h s left less lt g a = record {
   room = record {
     rows = room_after left less h.seen.lists.rows s.lists.rows lt g.rows a.room.rows;
@@ -77,7 +77,7 @@ pub host_falls : (indexes : Indexes) (h : HostView) (number : ℕ) (args : List 
 host_falls indexes h number args m left = (call_fine indexes h.seen number args m left).falls
 
 keeps_reply : (h : HostView) (left after : ℕ) (reply : Reply Seen Failure) → after ≤ left → Leaving (Goes h.seen) reply →
-    Keeps (λ g f args n. Allows g n) h left (map_reply (over h.base) reply) after
+    Keeps (λ g f args n. Allows g n) h left (map_reply (over h) reply) after
 keeps_reply h left after (value n s m) le g = λ f args less lt a. allows_after h s left less (omega (arith, lt, le)) g a
 keeps_reply h left after (nothing s m) le g = λ f args less lt a. allows_after h s left less (omega (arith, lt, le)) g a
 keeps_reply h left after (exit s m) le g = tt
@@ -91,15 +91,16 @@ host_keeps indexes h number args m left a = let fine = call_fine indexes h.seen 
 
 -- ---- likeness: with it a run is a function of what it sees
 
-alike_reply : (base given : Base) (reply : Reply Seen Failure) → given ≡ base → SameReply (Shows base) (map_reply (over given) reply) reply
-alike_reply base given (value n s m) e = (s, (refl, e), refl)
-alike_reply base given (nothing s m) e = (s, (refl, e), refl)
-alike_reply base given (exit s m) e = (s, (refl, e), refl)
-alike_reply base given (refused f) e = refl
-alike_reply base given step_limit e = refl
+alike_reply : (before given : HostView) (reply : Reply Seen Failure) → given.base ≡ before.base → given.holder ≡ before.holder →
+    SameReply (Shows before) (map_reply (over given) reply) reply
+alike_reply before given (value n s m) e d = (s, (refl, e, d), refl)
+alike_reply before given (nothing s m) e d = (s, (refl, e, d), refl)
+alike_reply before given (exit s m) e d = (s, (refl, e, d), refl)
+alike_reply before given (refused f) e d = refl
+alike_reply before given step_limit e d = refl
 
-pub hosts_alike : (indexes : Indexes) (base : Base) → ReplyAlike (Shows base) (host_call indexes) (call indexes)
-hosts_alike indexes base h s number args m left shows =
-    subst (λ (x : Seen). SameReply (Shows base) (host_call indexes h number args m left).reply (call indexes x number args m left).reply
+pub hosts_alike : (indexes : Indexes) (before : HostView) → ReplyAlike (Shows before) (host_call indexes) (call indexes)
+hosts_alike indexes before h s number args m left shows =
+    subst (λ (x : Seen). SameReply (Shows before) (host_call indexes h number args m left).reply (call indexes x number args m left).reply
     × ((host_call indexes h number args m left).left ≡ (call indexes x number args m left).left)) shows.0
-    (alike_reply base h.base (call indexes h.seen number args m left).reply shows.1, refl)
+    (alike_reply before h (call indexes h.seen number args m left).reply shows.1 shows.2, refl)

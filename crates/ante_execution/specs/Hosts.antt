@@ -64,16 +64,17 @@ call indexes s number args m left = checked (is_send_inline (intrinsic_at number
 
 -- ---- the host over the sessions beneath
 
--- the host as contracts see it: what a run sees, and what no call changes
+-- the host as contracts see it: what a run sees; and what no call changes, of the store and which reference to it is held
 pub record HostView : Type 0 where
   pub seen : Seen
   pub base : Base
+  pub holder : ℕ
 
-abbrev pub over : Base → Seen → HostView
-over base s = record { seen = s; base = base }
+abbrev pub over : HostView → Seen → HostView
+over h s = record { seen = s; base = h.base; holder = h.holder }
 
 abbrev pub host_call : Indexes → HostMeaning HostView Failure
-host_call indexes h number args m left = map_outcome (over h.base) (call indexes h.seen number args m left)
+host_call indexes h number args m left = map_outcome (over h) (call indexes h.seen number args m left)
 
 -- the store, of which a run sees the newest state
 abbrev pub store_of : HostView → Stack World
@@ -104,10 +105,10 @@ pub record Allows (h : HostView) (left : ℕ) : Type 0 where
 -- ---- what stands after a call that is refused, or is refused memory
 
 abbrev pub Leaves : HostView → HostView → Type 0
-Leaves old new = (new.base ≡ old.base) × (said new.seen.run ≡ said old.seen.run)
+Leaves old new = (new.base ≡ old.base) × (said new.seen.run ≡ said old.seen.run) × (new.holder ≡ old.holder)
 
 -- ---- the host and what a run sees
 
--- the host shows this, over this base: its calls have the replies of `call`
-abbrev pub Shows : Base → HostView → Seen → Type 0
-Shows base h s = (h.seen ≡ s) × (h.base ≡ base)
+-- the host shows this, and holds what it held before: its calls have the replies of `call`
+abbrev pub Shows : (before : HostView) → HostView → Seen → Type 0
+Shows before h s = (h.seen ≡ s) × (h.base ≡ before.base) × (h.holder ≡ before.holder)
