@@ -1,0 +1,3 @@
+-- In this order: the contract, and what is made of a seed.
+pub mod Ledger
+pub mod Workload
