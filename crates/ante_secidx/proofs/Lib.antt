@@ -1,0 +1,3 @@
+mod Neighbours
+mod Bounds
+mod Hinted
