@@ -4,4 +4,5 @@ mod Joining
 mod Halving
 mod Taking
 mod Closing
+mod Finishing
 mod Serving

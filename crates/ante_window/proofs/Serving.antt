@@ -4,11 +4,12 @@ use Rattle.std.specs.List.{AllByRecursion, flat_map, range_with_len}
 use Rattle.std.proofs.lemmas.Bool.Decides.{nat_tests}
 use Rattle.ante_core.specs.declared.DoneJob.{DoneJob}
 use Rattle.ante_core.specs.declared.window.Held.{Held}
+use Rattle.ante_core.specs.Runs.{after_event}
 use Rattle.ante_core.specs.Machine.{State, WindowState, held_by, without, core_step, with_drawn, with_window, stands_if, next_held, after_piece, with_window_and_done}
 use Rattle.ante_core.specs.declared.Piece.TheVariants.{Ready}
-use Rattle.std.proofs.lemmas.Option.{none-some, same_Some}
+use Rattle.std.proofs.lemmas.Option.{none-some, same_Some, slice_get_within, get_or_from_slice_get}
 use Rattle.ante_core.specs.Sound.{ApartBy}
-use Rattle.ante_core.proofs.Lists.{apart-without, apart-push, all-other_readers, all-weaken}
+use Rattle.ante_core.proofs.Lists.{all-push, all-weaken}
 use Rattle.ante_window.specs.declared.outcome.Bell.{Bell}
 use Rattle.ante_window.specs.declared.schedule.Left.{Left}
 use Rattle.ante_window.specs.declared.schedule.Left.TheVariants.{Finished, Starved, Cut}
@@ -16,7 +17,8 @@ use Rattle.ante_window.specs.declared.schedule.Turn.{Turn}
 use Rattle.ante_window.specs.declared.schedule.WindowEvent.{WindowEvent}
 use Rattle.ante_window.specs.declared.schedule.WindowEvent.TheVariants as event
 use Rattle.ante_window.specs.Schedule.{left_by, turns_from, last_from, ended_as, ended, cut_as, cut, has_turn, ended_unless, last_ended, ended_of, claims, ring, schedule}
-use Rattle.ante_window.specs.InCore.{meaning, in_core, begun_over, RunsIn}
+use Rattle.ante_window.specs.InCore.{meaning, in_core, begun_over, RunsIn, after_window, times_done, Leaves}
+use Rattle.ante_window.proofs.Finishing.{same_number, self_eq, or_tail, or_head, Tells, last_in, last_end, times_left, reply_of, times_of_turn, Hands, hands_free, hands_claim, hands_finish, hands_drop, job_of_turn, finishes, all_done}
 use Rattle.ante_window.specs.declared.outcome.Outcome.{Outcome}
 use Rattle.ante_window.specs.declared.outcome.Outcome.TheVariants as outcome
 use Rattle.ante_window.specs.declared.outcome.Entry.{Entry}
@@ -58,12 +60,6 @@ some_there (Some x) e = (x, refl)
 none_there : {X : Type 0} (o : Option X) → is_some o ≡ false → is_none o ≡ true
 none_there None e = refl
 none_there (Some x) e = absurd (true≢false e)
-
-same_number : (x y : ℕ) → nat_eq x y ≡ true → x ≡ y
-same_number x y e = grind (arith, nat_tests)
-
-self_eq : (x : ℕ) → nat_eq x x ≡ true
-self_eq x = grind (arith, nat_tests)
 
 -- The jobs in hand
 module _ {J : Type 0} where
@@ -177,14 +173,6 @@ or_false : (c : Bool) → c ≡ (c || false)
 or_false true = refl
 or_false false = refl
 
-or_tail : (a b : Bool) → (a || b) ≡ false → b ≡ false
-or_tail true b e = absurd (true≢false e)
-or_tail false b e = e
-
-or_head : (a b : Bool) → (a || b) ≡ false → a ≡ false
-or_head true b e = absurd (true≢false e)
-or_head false b e = refl
-
 cut_is : (l : Left) → is_cut l ≡ true → IsCut l
 cut_is Finished e = true≢false (sym e)
 cut_is Starved e = true≢false (sym e)
@@ -216,57 +204,88 @@ no_cuts (t ∷ ts) h = ap (λ l. l ++ flat_map cut ts) (by t.left (sym (ap (λ b
     by Starved e = refl
     by Cut e = absurd (true≢false e)
 
-module _ {S J R : Type 0} (answer : S → J → R) (world : S) (jobs : List J) (deadline : ℕ) (listed : List ℕ) (n : ℕ)
-    (room : (drawn : ℕ) → drawn < n → (job : ℕ) × (value : J) × (slice_get listed drawn ≡ Some job) × (slice_get jobs job ≡ Some value)) where
+-- each of the events has a row in the state that those before it leave, and what they all leave is such
+abbrev pub RunsTo : {S J R : Type 0} → (S → J → R) → (State S J J R → Type 0) → State S J J R → List WindowEvent → Type 0
+RunsTo answer Ends s [] = Ends s
+RunsTo answer Ends s (e ∷ es) = IsSome (core_step (meaning answer) s (in_core e).0) × RunsTo answer Ends (after_event (meaning answer) s (in_core e)) es
+
+pub runs_in : {S J R : Type 0} (answer : S → J → R) (Ends : State S J J R → Type 0) (s : State S J J R) (es : List WindowEvent) → RunsTo answer Ends s es → RunsIn answer s es
+runs_in answer Ends s [] h = tt
+runs_in answer Ends s (e ∷ es) h = (h.0, runs_in answer Ends (after_event (meaning answer) s (in_core e)) es h.1)
+
+pub runs_end : {S J R : Type 0} (answer : S → J → R) (Ends : State S J J R → Type 0) (s : State S J J R) (es : List WindowEvent) → RunsTo answer Ends s es → Ends (after_window answer s es)
+runs_end answer Ends s [] h = h
+runs_end answer Ends s (e ∷ es) h = runs_end answer Ends (after_event (meaning answer) s (in_core e)) es h.1
+
+-- the turns are of the jobs from this one on, each once
+abbrev pub InRow : ℕ → List Turn → Type 0
+InRow job [] = Unit {0}
+InRow job (t ∷ ts) = (t.job ≡ job) × InRow (job + 1) ts
+
+module _ {S J R : Type 0} (answer : S → J → R) (world : S) (jobs : List J) (deadline : ℕ) (listed : List ℕ) (n : ℕ) (outcomes : List (Outcome R)) (Ends : State S J J R → Type 0)
+    (room : (drawn : ℕ) → drawn < n → (value : J) × (slice_get listed drawn ≡ Some drawn) × (slice_get jobs drawn ≡ Some value))
+    (replies : (job : ℕ) (value : J) (r : R) → slice_get jobs job ≡ Some value → slice_get outcomes job ≡ Some (outcome.Done r) → r ≡ answer world value) where
   abbrev in_hand : ℕ → Option ℕ → List (Held J) → WindowState J
   in_hand drawn rung held = record { deadline = deadline; listed = listed; drawn = drawn; rung = rung; held = held }
 
   abbrev at : List (DoneJob R) → ℕ → Option ℕ → List (Held J) → State S J J R
   at done drawn rung held = record { world = world; position = 0; jobs = jobs; done = done; window = Some (in_hand drawn rung held) }
 
-  abbrev Apart : List (Held J) → Type 0
-  Apart held = ApartBy (λ (h : Held J). h.reader) held
+  abbrev Runs : State S J J R → List WindowEvent → Type 0
+  Runs s es = RunsTo answer Ends s es
 
-  goes : (s t : State S J J R) (es : List WindowEvent) (o : Option (State S J J R)) → o ≡ Some t → RunsIn answer t es → IsSome o × RunsIn answer (unwrap_or o s) es
-  goes s t es o e h = subst (λ p. IsSome p × RunsIn answer (unwrap_or p s) es) (sym e) (refl, h)
+  abbrev Has : List Turn → List (DoneJob R) → List (Held J) → Type 0
+  Has turns done held = Hands (answer world) jobs outcomes turns done held
+
+  goes : (s t : State S J J R) (es : List WindowEvent) (o : Option (State S J J R)) → o ≡ Some t → Runs t es → IsSome o × Runs (unwrap_or o s) es
+  goes s t es o e h = subst (λ p. IsSome p × Runs (unwrap_or p s) es) (sym e) (refl, h)
 
   advances : (done : List (DoneJob R)) (drawn : ℕ) (rung : Option ℕ) (held : List (Held J)) (r job : ℕ) (h : Held J) → held_by r held ≡ Some h
       → core_step (meaning answer) (at done drawn rung held) (in_core (event.Finish r job)).0 ≡ Some (at (done ++ record { job = h.job; position = 0; reply = answer world h.frame } ∷ []) drawn rung (without r held))
   advances done drawn rung held r job h e =
       ap (λ o. option_map (with_window_and_done (at done drawn rung held)) (option_map (λ (k : Held J). after_piece r 0 (in_hand drawn rung held, done) k (Ready (answer world k.frame))) o)) e
 
-  -- a reader's turn ends before the bell
-  end_turn : (done : List (DoneJob R)) (drawn : ℕ) (rung : Option ℕ) (held : List (Held J)) (t : Turn) → holds t.reader held ≡ true → (IsCut t.left → ⊥) → (es : List WindowEvent)
-      → ((done' : List (DoneJob R)) → RunsIn answer (at done' drawn rung (without t.reader held)) es) → RunsIn answer (at done drawn rung held) (ended t ++ es)
-  end_turn done drawn rung held t there uncut es k = by t.left uncut
+  -- the job of a turn that isn't finished leaves its reader's hands
+  drops : (turns : List Turn) (done : List (DoneJob R)) (held : List (Held J)) (t : Turn) (h : Held J) → Has turns done held → held_by t.reader held ≡ Some h → last_from None t.reader turns ≡ Some t → Tells outcomes t
+      → (l : Left) → t.left ≡ l → times_left l ≡ 0 → Has turns done (without t.reader held)
+  drops turns done held t h hands here last tells l is idle =
+      hands_drop (answer world) jobs outcomes turns done held t.reader h hands here
+      (ap (λ k. times_done (slice_get outcomes k)) (sym (job_of_turn (answer world) jobs outcomes turns done held t h hands here last)) ∙ times_of_turn outcomes t tells l is ∙ idle)
+
+  -- a reader's turn, its last so far, ends before the bell
+  end_turn : (turns : List Turn) (done : List (DoneJob R)) (drawn : ℕ) (rung : Option ℕ) (held : List (Held J)) (t : Turn) → Has turns done held → last_from None t.reader turns ≡ Some t → Tells outcomes t
+      → holds t.reader held ≡ true → (IsCut t.left → ⊥) → (es : List WindowEvent)
+      → ((done' : List (DoneJob R)) → Has turns done' (without t.reader held) → Runs (at done' drawn rung (without t.reader held)) es) → Runs (at done drawn rung held) (ended t ++ es)
+  end_turn turns done drawn rung held t hands last tells there uncut es k =
+      let h = some_there (held_by t.reader held) there in by h.0 h.1 t.left refl uncut
     where
-      by : (l : Left) → (IsCut l → ⊥) → RunsIn answer (at done drawn rung held) (ended_as t.reader t.job l ++ es)
-      by Finished u =
-          let h = some_there (held_by t.reader held) there in
-          goes (at done drawn rung held) (at (done ++ record { job = h.0.job; position = 0; reply = answer world h.0.frame } ∷ []) drawn rung (without t.reader held)) es
-          (core_step (meaning answer) (at done drawn rung held) (in_core (event.Finish t.reader t.job)).0) (advances done drawn rung held t.reader t.job h.0 h.1) (k (done ++ record { job = h.0.job; position = 0; reply = answer world h.0.frame } ∷ []))
-      by Starved u =
-          let h = some_there (held_by t.reader held) there in
-          (subst IsSome (sym (advances done drawn rung held t.reader t.job h.0 h.1)) refl, k done)
-      by Cut u = absurd (u tt)
+      by : (h : Held J) → held_by t.reader held ≡ Some h → (l : Left) → t.left ≡ l → (IsCut l → ⊥) → Runs (at done drawn rung held) (ended_as t.reader t.job l ++ es)
+      by h here Finished is u =
+          goes (at done drawn rung held) (at (done ++ record { job = h.job; position = 0; reply = answer world h.frame } ∷ []) drawn rung (without t.reader held)) es
+          (core_step (meaning answer) (at done drawn rung held) (in_core (event.Finish t.reader t.job)).0) (advances done drawn rung held t.reader t.job h here)
+          (k (done ++ record { job = h.job; position = 0; reply = answer world h.frame } ∷ [])
+          (hands_finish (answer world) jobs outcomes turns done held t.reader h hands here (finishes (answer world) jobs outcomes turns done held t h hands here last tells is replies)))
+      by h here Starved is u =
+          (subst IsSome (sym (advances done drawn rung held t.reader t.job h here)) refl, k done (drops turns done held t h hands here last tells Starved is refl))
+      by h here Cut is u = absurd (u tt)
 
   -- a reader without a job claims the next
   claim_turn : (done : List (DoneJob R)) (drawn : ℕ) (held : List (Held J)) (r job : ℕ) → holds r held ≡ false → drawn < n → (es : List WindowEvent)
-      → ((h : Held J) → h.reader ≡ r → RunsIn answer (at done (drawn + 1) None (held ++ h ∷ [])) es) → RunsIn answer (at done drawn None held) (event.Claim r job ∷ es)
+      → ((value : J) → slice_get jobs drawn ≡ Some value → Runs (at done (drawn + 1) None (held ++ record { reader = r; job = drawn; frame = value } ∷ [])) es) → Runs (at done drawn None held) (event.Claim r job ∷ es)
   claim_turn done drawn held r job free lt es k =
       let place = room drawn lt in
-      let h : Held J = record { reader = r; job = place.0; frame = place.1 } in
+      let h : Held J = record { reader = r; job = drawn; frame = place.0 } in
       let next : next_held (meaning answer) world jobs r (in_hand drawn None held) ≡ Some h =
-      ap (λ o. option_and_then (λ i. option_map (λ value. record { reader = r; job = i; frame = value }) (slice_get jobs i)) o) place.2
-      ∙ ap (λ o. option_map (λ value. record { reader = r; job = place.0; frame = value }) o) place.3 in
+      ap (λ o. option_and_then (λ i. option_map (λ value. record { reader = r; job = i; frame = value }) (slice_get jobs i)) o) place.1
+      ∙ ap (λ o. option_map (λ value. record { reader = r; job = drawn; frame = value }) o) place.2 in
       let row : core_step (meaning answer) (at done drawn None held) (in_core (event.Claim r job)).0 ≡ Some (at done (drawn + 1) None (held ++ h ∷ [])) =
       ap (λ b. option_map (with_window (at done drawn None held)) (stands_if b (unwrap_or (option_map (with_drawn (in_hand drawn None held)) (next_held (meaning answer) world jobs r (in_hand drawn None held))) (in_hand drawn None held)))) (none_there (held_by r held) free)
       ∙ ap (λ o. Some (with_window (at done drawn None held) (unwrap_or (option_map (with_drawn (in_hand drawn None held)) o) (in_hand drawn None held)))) next in
-      goes (at done drawn None held) (at done (drawn + 1) None (held ++ h ∷ [])) es (core_step (meaning answer) (at done drawn None held) (in_core (event.Claim r job)).0) row (k h refl)
+      goes (at done drawn None held) (at done (drawn + 1) None (held ++ h ∷ [])) es (core_step (meaning answer) (at done drawn None held) (in_core (event.Claim r job)).0) row (k place.0 place.2)
 
-  next_free : (done : List (DoneJob R)) (before : List Turn) (t : Turn) (held : List (Held J)) → holds t.reader held ≡ false → ((x : ℕ) → nat_eq t.reader x ≡ false → holds x held ≡ has_turn x before)
+  next_free : (before : List Turn) (t : Turn) (held : List (Held J)) → ((x : ℕ) → nat_eq t.reader x ≡ false → holds x held ≡ has_turn x before)
       → (h : Held J) → h.reader ≡ t.reader → (x : ℕ) → holds x (held ++ h ∷ []) ≡ has_turn x (before ++ t ∷ [])
-  next_free done before t held free same h is x = held_snoc x held h ∙ ap (λ r. holds x held || nat_eq r x) is ∙ by (nat_eq t.reader x) refl ∙ sym (turn_snoc x before t)
+  next_free before t held same h is x = held_snoc x held h ∙ ap (λ r. holds x held || nat_eq r x) is ∙ by (nat_eq t.reader x) refl ∙ sym (turn_snoc x before t)
     where
       or_true : (c : Bool) → (c || true) ≡ true
       or_true true = refl
@@ -276,20 +295,19 @@ module _ {S J R : Type 0} (answer : S → J → R) (world : S) (jobs : List J) (
       by true e = or_true (holds x held) ∙ sym (or_true (has_turn x before))
       by false e = ap (λ c. c || false) (same x e)
 
-  apart_next : (held : List (Held J)) (h : Held J) (r : ℕ) → h.reader ≡ r → Apart held → holds r held ≡ false → Apart (held ++ h ∷ [])
-  apart_next held h r is apart free =
-      apart-push (λ (k : Held J). k.reader) held h apart (subst (λ m. AllByRecursion (λ (k : Held J). k.reader ≢ m) held) (sym is) (all-other_readers r held (none_is (held_by r held) free)))
-
   -- The claims of these turns, after those before
-  claims_run : (before ts : List Turn) → CutsAreLast (before ++ ts) → length before + length ts ≤ n → (done : List (DoneJob R)) (held : List (Held J)) → ((x : ℕ) → holds x held ≡ has_turn x before) → Apart held
-      → (es : List WindowEvent) → ((done' : List (DoneJob R)) (held' : List (Held J)) → ((x : ℕ) → holds x held' ≡ has_turn x (before ++ ts)) → Apart held' → RunsIn answer (at done' (length before + length ts) None held') es)
-      → RunsIn answer (at done (length before) None held) (claims before ts ++ es)
-  claims_run before [] cuts few done held same apart es k =
-      subst (λ d. RunsIn answer (at done d None held) es) (omega arith) (k done held (λ x. same x ∙ ap (has_turn x) (sym (append-nil before))) apart)
-  claims_run before (t ∷ ts) cuts few done held same apart es k =
-      subst (RunsIn answer (at done (length before) None held)) (sym (append_assoc (ended_of t.reader before) (event.Claim t.reader t.job ∷ claims (before ++ t ∷ []) ts) es))
-      (by (λ done' held' same' apart'. claims_run (before ++ t ∷ []) ts (subst CutsAreLast (sym whole) cuts) (omega (arith, long, few)) done' held' same' apart' es
-      (λ done'' held'' same'' apart''. subst (λ d. RunsIn answer (at done'' d None held'') es) (omega (arith, long)) (k done'' held'' (λ x. same'' x ∙ ap (has_turn x) whole) apart'')))
+  claims_run : (before ts : List Turn) → CutsAreLast (before ++ ts) → InRow (length before) ts → AllByRecursion (Tells outcomes) before → AllByRecursion (Tells outcomes) ts → length before + length ts ≤ n
+      → (done : List (DoneJob R)) (held : List (Held J)) → ((x : ℕ) → holds x held ≡ has_turn x before) → Has before done held → (es : List WindowEvent)
+      → ((done' : List (DoneJob R)) (held' : List (Held J)) → ((x : ℕ) → holds x held' ≡ has_turn x (before ++ ts)) → Has (before ++ ts) done' held' → Runs (at done' (length before + length ts) None held') es)
+      → Runs (at done (length before) None held) (claims before ts ++ es)
+  claims_run before [] cuts row told tell few done held same hands es k =
+      subst (λ d. Runs (at done d None held) es) (omega arith)
+      (k done held (λ x. same x ∙ ap (has_turn x) (sym (append-nil before))) (subst (λ ts. Has ts done held) (sym (append-nil before)) hands))
+  claims_run before (t ∷ ts) cuts row told tell few done held same hands es k =
+      subst (Runs (at done (length before) None held)) (sym (append_assoc (ended_of t.reader before) (event.Claim t.reader t.job ∷ claims (before ++ t ∷ []) ts) es))
+      (by (λ done' held' same' hands'. claims_run (before ++ t ∷ []) ts (subst CutsAreLast (sym whole) cuts) (subst (λ j. InRow j ts) (sym long) row.1) (all-push (Tells outcomes) before t told tell.0) tell.1
+      (omega (arith, long, few)) done' held' same' hands' es
+      (λ done'' held'' same'' hands''. subst (λ d. Runs (at done'' d None held'') es) (omega (arith, long)) (k done'' held'' (λ x. same'' x ∙ ap (has_turn x) whole) (subst (λ us. Has us done'' held'') whole hands''))))
       (last_from None t.reader before) refl)
     where
       others : List WindowEvent
@@ -301,32 +319,36 @@ module _ {S J R : Type 0} (answer : S → J → R) (world : S) (jobs : List J) (
       whole : (before ++ t ∷ []) ++ ts ≡ before ++ t ∷ ts
       whole = append_assoc before (t ∷ []) ts
 
-      claimed : ((done' : List (DoneJob R)) (held' : List (Held J)) → ((x : ℕ) → holds x held' ≡ has_turn x (before ++ t ∷ [])) → Apart held' → RunsIn answer (at done' (length (before ++ t ∷ [])) None held') (claims (before ++ t ∷ []) ts ++ es)) → (done' : List (DoneJob R)) (held' : List (Held J)) → holds t.reader held' ≡ false → ((x : ℕ) → nat_eq t.reader x ≡ false → holds x held' ≡ has_turn x before) → Apart held'
-          → RunsIn answer (at done' (length before) None held') (event.Claim t.reader t.job ∷ others)
-      claimed again done' held' free same' apart' = claim_turn done' (length before) held' t.reader t.job free (omega arith) others
-          (λ h is. subst (λ d. RunsIn answer (at done' d None (held' ++ h ∷ [])) others) long (again done' (held' ++ h ∷ []) (next_free done' before t held' free same' h is) (apart_next held' h t.reader is apart' free)))
+      claimed : ((done' : List (DoneJob R)) (held' : List (Held J)) → ((x : ℕ) → holds x held' ≡ has_turn x (before ++ t ∷ [])) → Has (before ++ t ∷ []) done' held' → Runs (at done' (length (before ++ t ∷ [])) None held') (claims (before ++ t ∷ []) ts ++ es))
+          → (done' : List (DoneJob R)) (held' : List (Held J)) → holds t.reader held' ≡ false → ((x : ℕ) → nat_eq t.reader x ≡ false → holds x held' ≡ has_turn x before) → Has before done' held'
+          → Runs (at done' (length before) None held') (event.Claim t.reader t.job ∷ others)
+      claimed again done' held' free same' hands' = claim_turn done' (length before) held' t.reader t.job free (omega arith) others
+          (λ value there. subst (λ d. Runs (at done' d None (held' ++ record { reader = t.reader; job = length before; frame = value } ∷ [])) others) long
+          (again done' (held' ++ record { reader = t.reader; job = length before; frame = value } ∷ []) (next_free before t held' same' (record { reader = t.reader; job = length before; frame = value }) refl)
+          (hands_claim (answer world) jobs outcomes before t done' held' value hands' (none_is (held_by t.reader held') free) row.0 there long)))
 
-      by : ((done' : List (DoneJob R)) (held' : List (Held J)) → ((x : ℕ) → holds x held' ≡ has_turn x (before ++ t ∷ [])) → Apart held' → RunsIn answer (at done' (length (before ++ t ∷ [])) None held') (claims (before ++ t ∷ []) ts ++ es)) → (o : Option Turn) → last_from None t.reader before ≡ o → RunsIn answer (at done (length before) None held) (unwrap_or (option_map ended o) [] ++ event.Claim t.reader t.job ∷ others)
-      by again None is = claimed again done held (same t.reader ∙ sym (last_some None t.reader before) ∙ ap (λ o. is_some o) is) (λ x ne. same x) apart
+      by : ((done' : List (DoneJob R)) (held' : List (Held J)) → ((x : ℕ) → holds x held' ≡ has_turn x (before ++ t ∷ [])) → Has (before ++ t ∷ []) done' held' → Runs (at done' (length (before ++ t ∷ [])) None held') (claims (before ++ t ∷ []) ts ++ es))
+          → (o : Option Turn) → last_from None t.reader before ≡ o → Runs (at done (length before) None held) (unwrap_or (option_map ended o) [] ++ event.Claim t.reader t.job ∷ others)
+      by again None is = claimed again done held (same t.reader ∙ sym (last_some None t.reader before) ∙ ap (λ o. is_some o) is) (λ x ne. same x) hands
       by again (Some u) is =
           let u_is = last_uncut None t.reader before (t ∷ ts) cuts (ap (λ b. b || has_turn t.reader ts) (self_eq t.reader)) u is in
           let good : (u.reader ≡ t.reader) × (IsCut u.left → ⊥) = ⊎_elim (λ no. absurd (none-some u no)) (λ g. g) u_is in
           let there : holds t.reader held ≡ true = same t.reader ∙ sym (last_some None t.reader before) ∙ ap (λ o. is_some o) is in
-          end_turn done (length before) None held u (subst (λ r. holds r held ≡ true) (sym good.0) there) good.1 (event.Claim t.reader t.job ∷ others)
-          (λ done'. claimed again done' (without u.reader held)
-          (subst (λ r. holds r (without u.reader held) ≡ false) good.0 (without_self u.reader held apart))
-          (λ x ne. without_other u.reader x held (subst (λ r. nat_eq r x ≡ false) (sym good.0) ne) ∙ same x)
-          (apart-without (λ (h : Held J). h.reader) u.reader held apart))
+          end_turn before done (length before) None held u hands (subst (λ r. last_from None r before ≡ Some u) (sym good.0) is) (last_in (Tells outcomes) None t.reader before u tt told is)
+          (subst (λ r. holds r held ≡ true) (sym good.0) there) good.1 (event.Claim t.reader t.job ∷ others)
+          (λ done' hands'. claimed again done' (without u.reader held)
+          (subst (λ r. holds r (without u.reader held) ≡ false) good.0 (without_self u.reader held hands.apart))
+          (λ x ne. without_other u.reader x held (subst (λ r. nat_eq r x ≡ false) (sym good.0) ne) ∙ same x) hands')
 
   -- What ends each reader's last turn, of the later turns: of those before, the turns that were cut are still in hand
-  ends_run : (pre ts : List Turn) → CutsAreLast ts → ((x : ℕ) → has_cut x pre ≡ true → has_turn x ts ≡ false) → (done : List (DoneJob R)) (drawn : ℕ) (held : List (Held J))
-      → ((x : ℕ) → holds x held ≡ (has_turn x ts || has_cut x pre)) → Apart held → (es : List WindowEvent)
-      → ((done' : List (DoneJob R)) (held' : List (Held J)) → ((x : ℕ) → holds x held' ≡ has_cut x (pre ++ ts)) → Apart held' → RunsIn answer (at done' drawn None held') es)
-      → RunsIn answer (at done drawn None held) (last_ended ts ++ es)
-  ends_run pre [] cuts later done drawn held same apart es k = k done held (λ x. same x ∙ ap (has_cut x) (sym (append-nil pre))) apart
-  ends_run pre (t ∷ ts) cuts later done drawn held same apart es k =
-      subst (RunsIn answer (at done drawn None held)) (sym (append_assoc (ended_unless (has_turn t.reader ts) t) (last_ended ts) es))
-      (by (λ done' held' same' apart'. ends_run (pre ++ t ∷ []) ts cuts.1 later' done' drawn held' same' apart' es (λ done'' held'' same'' apart''. k done'' held'' (λ x. same'' x ∙ ap (has_cut x) whole) apart''))
+  ends_run : (pre ts all : List Turn) → pre ++ ts ≡ all → CutsAreLast ts → AllByRecursion (Tells outcomes) ts → ((x : ℕ) → has_cut x pre ≡ true → has_turn x ts ≡ false) → (done : List (DoneJob R)) (drawn : ℕ) (held : List (Held J))
+      → ((x : ℕ) → holds x held ≡ (has_turn x ts || has_cut x pre)) → Has all done held → (es : List WindowEvent)
+      → ((done' : List (DoneJob R)) (held' : List (Held J)) → ((x : ℕ) → holds x held' ≡ has_cut x (pre ++ ts)) → Has all done' held' → Runs (at done' drawn None held') es)
+      → Runs (at done drawn None held) (last_ended ts ++ es)
+  ends_run pre [] all all_is cuts tell later done drawn held same hands es k = k done held (λ x. same x ∙ ap (has_cut x) (sym (append-nil pre))) hands
+  ends_run pre (t ∷ ts) all all_is cuts tell later done drawn held same hands es k =
+      subst (Runs (at done drawn None held)) (sym (append_assoc (ended_unless (has_turn t.reader ts) t) (last_ended ts) es))
+      (by (λ done' held' same' hands'. ends_run (pre ++ t ∷ []) ts all (whole ∙ all_is) cuts.1 tell.1 later' done' drawn held' same' hands' es (λ done'' held'' same'' hands''. k done'' held'' (λ x. same'' x ∙ ap (has_cut x) whole) hands''))
       (has_turn t.reader ts) refl t.left refl)
     where
       whole : (pre ++ t ∷ []) ++ ts ≡ pre ++ t ∷ ts
@@ -368,75 +390,84 @@ module _ {S J R : Type 0} (answer : S → J → R) (world : S) (jobs : List J) (
           go : (a : Bool) → nat_eq t.reader x ≡ a → (c : Bool) → has_cut x pre ≡ c → holds x (without t.reader held) ≡ (has_turn x ts || (c || cond a (is_cut t.left) false))
           go true p true q = absurd (true≢false (sym (ap (λ b. b || has_turn x ts) p) ∙ later x q))
           go true p false q = subst (λ m. holds m (without t.reader held) ≡ (has_turn m ts || is_cut t.left)) (same_number t.reader x p)
-              (without_self t.reader held apart ∙ sym (ap (λ b. b || is_cut t.left) is ∙ uncut))
+              (without_self t.reader held hands.apart ∙ sym (ap (λ b. b || is_cut t.left) is ∙ uncut))
           go false p c q = without_other t.reader x held p ∙ same x ∙ ap (λ b. (b || has_turn x ts) || has_cut x pre) p ∙ ap (λ b. has_turn x ts || b) (q ∙ or_false c)
 
-      ended_here : ((done' : List (DoneJob R)) (held' : List (Held J)) → ((x : ℕ) → holds x held' ≡ (has_turn x ts || has_cut x (pre ++ t ∷ []))) → Apart held' → RunsIn answer (at done' drawn None held') (last_ended ts ++ es)) → has_turn t.reader ts ≡ false → (IsCut t.left → ⊥) → is_cut t.left ≡ false → RunsIn answer (at done drawn None held) (ended t ++ (last_ended ts ++ es))
-      ended_here again is uncut not_cut = end_turn done drawn None held t there uncut (last_ended ts ++ es)
-          (λ done'. again done' (without t.reader held) (gone is not_cut) (apart-without (λ (h : Held J). h.reader) t.reader held apart))
+      ended_here : ((done' : List (DoneJob R)) (held' : List (Held J)) → ((x : ℕ) → holds x held' ≡ (has_turn x ts || has_cut x (pre ++ t ∷ []))) → Has all done' held' → Runs (at done' drawn None held') (last_ended ts ++ es))
+          → has_turn t.reader ts ≡ false → (IsCut t.left → ⊥) → is_cut t.left ≡ false → Runs (at done drawn None held) (ended t ++ (last_ended ts ++ es))
+      ended_here again is uncut not_cut = end_turn all done drawn None held t hands (subst (λ us. last_from None t.reader us ≡ Some t) all_is (last_end None pre t ts is)) tell.0 there uncut (last_ended ts ++ es)
+          (λ done' hands'. again done' (without t.reader held) (gone is not_cut) hands')
 
-      by : ((done' : List (DoneJob R)) (held' : List (Held J)) → ((x : ℕ) → holds x held' ≡ (has_turn x ts || has_cut x (pre ++ t ∷ []))) → Apart held' → RunsIn answer (at done' drawn None held') (last_ended ts ++ es)) → (b : Bool) → has_turn t.reader ts ≡ b → (l : Left) → t.left ≡ l → RunsIn answer (at done drawn None held) (ended_unless b t ++ (last_ended ts ++ es))
-      by again true is l left_is = again done held (stays (inl is)) apart
+      by : ((done' : List (DoneJob R)) (held' : List (Held J)) → ((x : ℕ) → holds x held' ≡ (has_turn x ts || has_cut x (pre ++ t ∷ []))) → Has all done' held' → Runs (at done' drawn None held') (last_ended ts ++ es))
+          → (b : Bool) → has_turn t.reader ts ≡ b → (l : Left) → t.left ≡ l → Runs (at done drawn None held) (ended_unless b t ++ (last_ended ts ++ es))
+      by again true is l left_is = again done held (stays (inl is)) hands
       by again false is Cut left_is =
-          subst (λ l. RunsIn answer (at done drawn None held) (ended_as t.reader t.job l ++ (last_ended ts ++ es))) (sym left_is)
-          (again done held (stays (inr (ap is_cut left_is))) apart)
+          subst (λ l. Runs (at done drawn None held) (ended_as t.reader t.job l ++ (last_ended ts ++ es))) (sym left_is)
+          (again done held (stays (inr (ap is_cut left_is))) hands)
       by again false is Finished left_is = ended_here again is (λ c. subst IsCut left_is c) (ap is_cut left_is)
       by again false is Starved left_is = ended_here again is (λ c. subst IsCut left_is c) (ap is_cut left_is)
 
-  closes : (done : List (DoneJob R)) (drawn : ℕ) (rung : Option ℕ) (held : List (Held J)) → ((x : ℕ) → holds x held ≡ false) → RunsIn answer (at done drawn rung held) (event.Close ∷ [])
-  closes done drawn rung held none_left = subst (λ hs. RunsIn answer (at done drawn rung hs) (event.Close ∷ [])) (sym (no_holder held none_left)) (refl, tt)
+  -- the window's end, by what stands then
+  module _ (all : List Turn) (over : (done : List (DoneJob R)) → Has all done [] → Ends (record { world = world; position = 0; jobs = jobs; done = done; window = None })) where
+    closes : (done : List (DoneJob R)) (drawn : ℕ) (rung : Option ℕ) (held : List (Held J)) → Has all done held → ((x : ℕ) → holds x held ≡ false) → Runs (at done drawn rung held) (event.Close ∷ [])
+    closes done drawn rung held hands none_left =
+        subst (λ hs. Has all done hs → Runs (at done drawn rung hs) (event.Close ∷ [])) (sym (no_holder held none_left)) (λ hands'. (refl, over done hands')) hands
 
-  -- The cuts of these turns, once the bell was rung, and the window's end
-  cuts_run : (ts : List Turn) → CutsAreLast ts → (done : List (DoneJob R)) (drawn m : ℕ) (held : List (Held J)) → ((x : ℕ) → holds x held ≡ has_cut x ts) → Apart held
-      → RunsIn answer (at done drawn (Some m) held) (flat_map cut ts ++ event.Close ∷ [])
-  cuts_run [] cuts done drawn m held same apart = closes done drawn (Some m) held same
-  cuts_run (t ∷ ts) cuts done drawn m held same apart =
-      subst (RunsIn answer (at done drawn (Some m) held)) (sym (append_assoc (cut t) (flat_map cut ts) (event.Close ∷ [])))
-      (by (λ held' same' apart'. cuts_run ts cuts.1 done drawn m held' same' apart') t.left refl)
-    where
-      passed : is_cut t.left ≡ false → (x : ℕ) → holds x held ≡ has_cut x ts
-      passed e x = same x ∙ go (nat_eq t.reader x)
-        where
-          go : (a : Bool) → (cond a (is_cut t.left) false || has_cut x ts) ≡ has_cut x ts
-          go true = ap (λ b. b || has_cut x ts) e
-          go false = refl
+    -- The cuts of these turns, once the bell was rung, and the window's end
+    cuts_run : (pre ts : List Turn) → pre ++ ts ≡ all → CutsAreLast ts → AllByRecursion (Tells outcomes) ts → (done : List (DoneJob R)) (drawn m : ℕ) (held : List (Held J)) → ((x : ℕ) → holds x held ≡ has_cut x ts) → Has all done held
+        → Runs (at done drawn (Some m) held) (flat_map cut ts ++ event.Close ∷ [])
+    cuts_run pre [] all_is cuts tell done drawn m held same hands = closes done drawn (Some m) held hands same
+    cuts_run pre (t ∷ ts) all_is cuts tell done drawn m held same hands =
+        subst (Runs (at done drawn (Some m) held)) (sym (append_assoc (cut t) (flat_map cut ts) (event.Close ∷ [])))
+        (by (λ held' same' hands'. cuts_run (pre ++ t ∷ []) ts (append_assoc pre (t ∷ []) ts ∙ all_is) cuts.1 tell.1 done drawn m held' same' hands') t.left refl)
+      where
+        passed : is_cut t.left ≡ false → (x : ℕ) → holds x held ≡ has_cut x ts
+        passed e x = same x ∙ go (nat_eq t.reader x)
+          where
+            go : (a : Bool) → (cond a (is_cut t.left) false || has_cut x ts) ≡ has_cut x ts
+            go true = ap (λ b. b || has_cut x ts) e
+            go false = refl
 
-      there : is_cut t.left ≡ true → holds t.reader held ≡ true
-      there e = same t.reader ∙ ap (λ b. cond b (is_cut t.left) false || has_cut t.reader ts) (self_eq t.reader) ∙ ap (λ b. b || has_cut t.reader ts) e
+        there : is_cut t.left ≡ true → holds t.reader held ≡ true
+        there e = same t.reader ∙ ap (λ b. cond b (is_cut t.left) false || has_cut t.reader ts) (self_eq t.reader) ∙ ap (λ b. b || has_cut t.reader ts) e
 
-      gone : IsCut t.left → (x : ℕ) → holds x (without t.reader held) ≡ has_cut x ts
-      gone c x = go (nat_eq t.reader x) refl
-        where
-          go : (a : Bool) → nat_eq t.reader x ≡ a → holds x (without t.reader held) ≡ has_cut x ts
-          go true p = subst (λ k. holds k (without t.reader held) ≡ has_cut k ts) (same_number t.reader x p) (without_self t.reader held apart ∙ sym (cut_none t.reader ts (cuts.0 c)))
-          go false p = without_other t.reader x held p ∙ same x ∙ ap (λ b. cond b (is_cut t.left) false || has_cut x ts) p
+        gone : IsCut t.left → (x : ℕ) → holds x (without t.reader held) ≡ has_cut x ts
+        gone c x = go (nat_eq t.reader x) refl
+          where
+            go : (a : Bool) → nat_eq t.reader x ≡ a → holds x (without t.reader held) ≡ has_cut x ts
+            go true p = subst (λ k. holds k (without t.reader held) ≡ has_cut k ts) (same_number t.reader x p) (without_self t.reader held hands.apart ∙ sym (cut_none t.reader ts (cuts.0 c)))
+            go false p = without_other t.reader x held p ∙ same x ∙ ap (λ b. cond b (is_cut t.left) false || has_cut x ts) p
 
-      by : ((held' : List (Held J)) → ((x : ℕ) → holds x held' ≡ has_cut x ts) → Apart held' → RunsIn answer (at done drawn (Some m) held') (flat_map cut ts ++ event.Close ∷ [])) → (l : Left) → t.left ≡ l → RunsIn answer (at done drawn (Some m) held) (cut_as t.reader t.job l ++ (flat_map cut ts ++ event.Close ∷ []))
-      by again Finished is = again held (passed (ap is_cut is)) apart
-      by again Starved is = again held (passed (ap is_cut is)) apart
-      by again Cut is =
-          goes (at done drawn (Some m) held) (at done drawn (Some m) (without t.reader held)) (flat_map cut ts ++ event.Close ∷ []) (core_step (meaning answer) (at done drawn (Some m) held) (in_core (event.Cut t.reader t.job)).0)
-          (ap (λ b. option_map (with_window (at done drawn (Some m) held)) (stands_if b (in_hand drawn (Some m) (without t.reader held)))) (there (ap is_cut is)))
-          (again (without t.reader held) (gone (subst IsCut (sym is) tt)) (apart-without (λ (h : Held J). h.reader) t.reader held apart))
+        by : ((held' : List (Held J)) → ((x : ℕ) → holds x held' ≡ has_cut x ts) → Has all done held' → Runs (at done drawn (Some m) held') (flat_map cut ts ++ event.Close ∷ [])) → (l : Left) → t.left ≡ l
+            → Runs (at done drawn (Some m) held) (cut_as t.reader t.job l ++ (flat_map cut ts ++ event.Close ∷ []))
+        by again Finished is = again held (passed (ap is_cut is)) hands
+        by again Starved is = again held (passed (ap is_cut is)) hands
+        by again Cut is =
+            let c : IsCut t.left = subst IsCut (sym is) tt in
+            let h = some_there (held_by t.reader held) (there (ap is_cut is)) in
+            let last = subst (λ us. last_from None t.reader us ≡ Some t) all_is (last_end None pre t ts (cuts.0 c)) in
+            goes (at done drawn (Some m) held) (at done drawn (Some m) (without t.reader held)) (flat_map cut ts ++ event.Close ∷ []) (core_step (meaning answer) (at done drawn (Some m) held) (in_core (event.Cut t.reader t.job)).0)
+            (ap (λ b. option_map (with_window (at done drawn (Some m) held)) (stands_if b (in_hand drawn (Some m) (without t.reader held)))) (there (ap is_cut is)))
+            (again (without t.reader held) (gone c) (drops all done held t h.0 hands h.1 last tell.0 Cut is refl))
 
-  -- A schedule runs: the turns that were cut are their readers' last, and none was where the bell wasn't rung
-  pub schedule_runs : (ts : List Turn) (bell : Option Bell) → CutsAreLast ts → length ts ≤ n → (bell ≡ None → (x : ℕ) → has_cut x ts ≡ false) → IfSome bell (λ (b : Bell). deadline ≤ b.moment)
-      → RunsIn answer (at [] 0 None []) (schedule ts bell)
-  schedule_runs ts bell cuts few silent late =
-      subst (RunsIn answer (at [] 0 None [])) (sym (append_assoc ((claims [] ts ++ last_ended ts) ++ ring bell) (flat_map cut ts) (event.Close ∷ []) ∙ append_assoc (claims [] ts ++ last_ended ts) (ring bell) (flat_map cut ts ++ event.Close ∷ [])
-      ∙ append_assoc (claims [] ts) (last_ended ts) (ring bell ++ (flat_map cut ts ++ event.Close ∷ []))))
-      (claims_run [] ts cuts (omega arith) [] [] (λ x. refl) tt (last_ended ts ++ (ring bell ++ (flat_map cut ts ++ event.Close ∷ [])))
-      (λ done held same apart. ends_run [] ts cuts (λ x e. absurd (true≢false (sym e))) done (0 + length ts) held (λ x. same x ∙ or_false (has_turn x ts)) apart (ring bell ++ (flat_map cut ts ++ event.Close ∷ []))
-      (λ done' held' same' apart'. rest_runs bell silent late done' held' same' apart')))
-    where
-      rest_runs : (b : Option Bell) → (b ≡ None → (x : ℕ) → has_cut x ts ≡ false) → IfSome b (λ (c : Bell). deadline ≤ c.moment) → (done : List (DoneJob R)) (held : List (Held J)) → ((x : ℕ) → holds x held ≡ has_cut x ts) → Apart held
-          → RunsIn answer (at done (0 + length ts) None held) (ring b ++ (flat_map cut ts ++ event.Close ∷ []))
-      rest_runs None quiet after done held same apart =
-          subst (λ l. RunsIn answer (at done (0 + length ts) None held) (l ++ event.Close ∷ [])) (sym (no_cuts ts (quiet refl))) (closes done (0 + length ts) None held (λ x. same x ∙ quiet refl x))
-      rest_runs (Some b) quiet after done held same apart =
-          goes (at done (0 + length ts) None held) (at done (0 + length ts) (Some b.moment) held) (flat_map cut ts ++ event.Close ∷ []) (core_step (meaning answer) (at done (0 + length ts) None held) (in_core (event.Ring b.reader b.moment)).0)
-          (ap (λ c. option_map (with_window (at done (0 + length ts) None held)) (stands_if c (in_hand (0 + length ts) (Some b.moment) held))) (le_test deadline b.moment after))
-          (cuts_run ts cuts done (0 + length ts) b.moment held same apart)
+    rest_runs : (b : Option Bell) → CutsAreLast all → AllByRecursion (Tells outcomes) all → (b ≡ None → (x : ℕ) → has_cut x all ≡ false) → IfSome b (λ (c : Bell). deadline ≤ c.moment) → (done : List (DoneJob R)) (drawn : ℕ) (held : List (Held J)) → ((x : ℕ) → holds x held ≡ has_cut x all) → Has all done held
+        → Runs (at done drawn None held) (ring b ++ (flat_map cut all ++ event.Close ∷ []))
+    rest_runs None cuts tell quiet after done drawn held same hands =
+        subst (λ l. Runs (at done drawn None held) (l ++ event.Close ∷ [])) (sym (no_cuts all (quiet refl))) (closes done drawn None held hands (λ x. same x ∙ quiet refl x))
+    rest_runs (Some b) cuts tell quiet after done drawn held same hands =
+        goes (at done drawn None held) (at done drawn (Some b.moment) held) (flat_map cut all ++ event.Close ∷ []) (core_step (meaning answer) (at done drawn None held) (in_core (event.Ring b.reader b.moment)).0)
+        (ap (λ c. option_map (with_window (at done drawn None held)) (stands_if c (in_hand drawn (Some b.moment) held))) (le_test deadline b.moment after))
+        (cuts_run [] all refl cuts tell done drawn b.moment held same hands)
+
+    -- A schedule runs: the turns that were cut are their readers' last, and none was where the bell wasn't rung
+    pub schedule_runs : (bell : Option Bell) → CutsAreLast all → InRow 0 all → AllByRecursion (Tells outcomes) all → length all ≤ n → (bell ≡ None → (x : ℕ) → has_cut x all ≡ false) → IfSome bell (λ (b : Bell). deadline ≤ b.moment)
+        → Runs (at [] 0 None []) (schedule all bell)
+    schedule_runs bell cuts row tell few silent late =
+        subst (Runs (at [] 0 None [])) (sym (append_assoc ((claims [] all ++ last_ended all) ++ ring bell) (flat_map cut all) (event.Close ∷ []) ∙ append_assoc (claims [] all ++ last_ended all) (ring bell) (flat_map cut all ++ event.Close ∷ [])
+        ∙ append_assoc (claims [] all) (last_ended all) (ring bell ++ (flat_map cut all ++ event.Close ∷ []))))
+        (claims_run [] all cuts row tt tell (omega arith) [] [] (λ x. refl) (hands_free (answer world) jobs outcomes) (last_ended all ++ (ring bell ++ (flat_map cut all ++ event.Close ∷ [])))
+        (λ done held same hands. ends_run [] all all refl cuts tell (λ x e. absurd (true≢false (sym e))) done (0 + length all) held (λ x. same x ∙ or_false (has_turn x all)) hands (ring bell ++ (flat_map cut all ++ event.Close ∷ []))
+        (λ done' held' same' hands'. rest_runs bell cuts tell silent late done' (0 + length all) held' same' hands')))
 
 -- From a window's lists to its turns
 module _ {R : Type 0} where
@@ -498,6 +529,70 @@ module _ {R : Type 0} where
           go false = e
       by false Cut is e = absurd (h.0 (back_of o (subst IsCut (sym is) tt)))
 
+-- The turns of a window's jobs, of which so many were claimed
+module _ {J R : Type 0} (answer : J → R) (jobs : List J) (rung : Option ℕ) (workers claimed : ℕ) (few : workers ≤ 16) where
+  abbrev Fates : List (Entry R) → Type 0
+  Fates es = AllByRecursion (IsFate answer jobs rung workers claimed) es
+
+  has_owner : (e : Entry R) → IsFate answer jobs rung workers claimed e → e.job < claimed → nat_eq e.reader nobody ≡ false
+  has_owner e fate lt = by (nat_eq e.reader nobody) refl
+    where
+      by : (b : Bool) → nat_eq e.reader nobody ≡ b → b ≡ false
+      by true is = let same = same_number e.reader nobody is in let mine = fate.owned lt in absurd (omega arith)
+      by false is = refl
+
+  no_turns : (job : ℕ) (os : List ℕ) (xs : List (Outcome R)) → Fates (entries_from job os xs) → claimed ≤ job → turns_from job os xs ≡ []
+  no_turns job [] xs fates le = refl
+  no_turns job (p ∷ os) [] fates le = refl
+  no_turns job (p ∷ os) (x ∷ xs) fates le =
+      ap (λ b. cond b [] (record { reader = p; job = job; left = left_by x } ∷ []) ++ turns_from (job + 1) os xs) (ap (λ q. nat_eq q nobody) (fates.0.unclaimed le).0 ∙ self_eq nobody)
+      ∙ no_turns (job + 1) os xs fates.1 (omega arith)
+
+  pub in_row : (job : ℕ) (os : List ℕ) (xs : List (Outcome R)) → Fates (entries_from job os xs) → InRow job (turns_from job os xs)
+  in_row job [] xs fates = tt
+  in_row job (p ∷ os) [] fates = tt
+  in_row job (p ∷ os) (x ∷ xs) fates = by (nat_lt job claimed) refl (in_row (job + 1) os xs fates.1)
+    where
+      by : (b : Bool) → nat_lt job claimed ≡ b → InRow (job + 1) (turns_from (job + 1) os xs) → InRow job (turns_from job (p ∷ os) (x ∷ xs))
+      by true is row = subst (λ b. InRow job (cond b [] (record { reader = p; job = job; left = left_by x } ∷ []) ++ turns_from (job + 1) os xs)) (sym (has_owner (record { job = job; reader = p; outcome = x }) fates.0 (ltb-true job claimed is))) (refl, row)
+      by false is row = subst (InRow job) (sym (no_turns job (p ∷ os) (x ∷ xs) fates (ltb-false job claimed is))) tt
+
+  pub long_turns : (job k : ℕ) (os : List ℕ) (xs : List (Outcome R)) → Fates (entries_from job os xs) → k < length os → k < length xs → job + k < claimed → k < length (turns_from job os xs)
+  long_turns job k [] xs fates lo lx lt = absurd (omega arith)
+  long_turns job k (p ∷ os) [] fates lo lx lt = absurd (omega arith)
+  long_turns job k (p ∷ os) (x ∷ xs) fates lo lx lt =
+      subst (λ b. k < length (cond b [] (record { reader = p; job = job; left = left_by x } ∷ []) ++ turns_from (job + 1) os xs)) (sym (has_owner (record { job = job; reader = p; outcome = x }) fates.0 (omega arith))) (by k lo lx lt (λ m a b c. long_turns (job + 1) m os xs fates.1 a b c))
+    where
+      by : (m : ℕ) → m < suc (length os) → m < suc (length xs) → job + m < claimed → ((i : ℕ) → i < length os → i < length xs → (job + 1) + i < claimed → i < length (turns_from (job + 1) os xs)) → m < suc (length (turns_from (job + 1) os xs))
+      by zero a b c again = omega arith
+      by (suc i) a b c again = let l = again i (omega arith) (omega arith) (omega arith) in omega arith
+
+  pub claimed_done : (job k : ℕ) (os : List ℕ) (xs : List (Outcome R)) (r : R) → Fates (entries_from job os xs) → k < length os → slice_get xs k ≡ Some (outcome.Done r) → job + k < claimed
+  claimed_done job k [] xs r fates lo is = absurd (omega arith)
+  claimed_done job k (p ∷ os) [] r fates lo is = absurd (none-some (outcome.Done r) is)
+  claimed_done job zero (p ∷ os) (x ∷ xs) r fates lo is = by (nat_lt job claimed) refl
+    where
+      by : (b : Bool) → nat_lt job claimed ≡ b → job + 0 < claimed
+      by true test = let lt = ltb-true job claimed test in omega arith
+      by false test = absurd (subst IsBack (same_Some x (outcome.Done r) is) (fates.0.unclaimed (ltb-false job claimed test)).1)
+  claimed_done job (suc k) (p ∷ os) (x ∷ xs) r fates lo is = let l = claimed_done (job + 1) k os xs r fates.1 (omega arith) is in omega arith
+
+  pub told_at : (job k : ℕ) (os : List ℕ) (xs : List (Outcome R)) (r : R) → Fates (entries_from job os xs) → k < length os → slice_get xs k ≡ Some (outcome.Done r) → (d : J) → r ≡ answer (slice_index_or jobs (job + k) d)
+  told_at job k [] xs r fates lo is d = absurd (omega arith)
+  told_at job k (p ∷ os) [] r fates lo is d = absurd (none-some (outcome.Done r) is)
+  told_at job zero (p ∷ os) (x ∷ xs) r fates lo is d =
+      subst (λ i. r ≡ answer (slice_index_or jobs i d)) (omega arith) (subst (TellsOutcome (answer (slice_index_or jobs job d)) rung) (same_Some x (outcome.Done r) is) (fates.0.told d))
+  told_at job (suc k) (p ∷ os) (x ∷ xs) r fates lo is d = subst (λ i. r ≡ answer (slice_index_or jobs i d)) (omega arith) (told_at (job + 1) k os xs r fates.1 (omega arith) is d)
+
+tell_all : {R : Type 0} (outcomes : List (Outcome R)) (job : ℕ) (os : List ℕ) (xs : List (Outcome R)) → ((i : ℕ) → slice_get outcomes (job + i) ≡ slice_get xs i) → AllByRecursion (Tells outcomes) (turns_from job os xs)
+tell_all outcomes job [] xs same = tt
+tell_all outcomes job (p ∷ os) [] same = tt
+tell_all outcomes job (p ∷ os) (x ∷ xs) same = by (nat_eq p nobody) (tell_all outcomes (job + 1) os xs (λ i. subst (λ k. slice_get outcomes k ≡ slice_get xs i) (omega arith) (same (suc i))))
+  where
+    by : (b : Bool) → AllByRecursion (Tells outcomes) (turns_from (job + 1) os xs) → AllByRecursion (Tells outcomes) (cond b [] (record { reader = p; job = job; left = left_by x } ∷ []) ++ turns_from (job + 1) os xs)
+    by true later = later
+    by false later = ((x, subst (λ k. slice_get outcomes k ≡ Some x) (omega arith) (same 0), refl), later)
+
 there : {J : Type 0} (xs : List J) (i : ℕ) → i < length xs → (x : J) × (slice_get xs i ≡ Some x)
 there [] i lt = absurd (omega arith)
 there (x ∷ xs) zero lt = (x, refl)
@@ -539,9 +634,32 @@ module _ {S J R : Type 0} (answer : S → J → R) (state : S) (told : ℕ → T
       empty (p ∷ os) e = absurd (omega arith)
   silent_cuts (j ∷ js) w none x = uncut_all 0 owners outcomes (quiet (j ∷ js) w.claimed (moment_of w.bell) (ap moment_of none) j (entries_from 0 owners outcomes) w.each) x
 
-  pub window_runs : (jobs : List J) → IsWindow (answer state) jobs told deadline workers outcomes owners list → RunsIn answer (begun_over state jobs deadline) list
-  window_runs jobs w = subst (RunsIn answer (begun_over state jobs deadline)) (sym w.events)
-      (schedule_runs answer state jobs deadline (range_with_len 0 (length jobs)) (length jobs) (λ drawn lt. let v = there jobs drawn lt in (0 + drawn, v.0, listed_there 0 (length jobs) drawn lt, subst (λ k. slice_get jobs k ≡ Some v.0) (omega arith) v.1))
-      (turns_from 0 owners outcomes) w.bell
+  -- the window core runs the events, and the jobs whose outcome is Done are done
+  served : (jobs : List J) → IsWindow (answer state) jobs told deadline workers outcomes owners list → workers ≤ 16 → RunsTo answer (Leaves outcomes (begun_over state jobs deadline)) (begun_over state jobs deadline) list
+  served jobs w few =
+      let turns = turns_from 0 owners outcomes in
+      let long : length owners ≡ length outcomes = w.owned ∙ sym w.ended in
+      let within : (k : ℕ) (o : Outcome R) → slice_get outcomes k ≡ Some o → k < length owners = λ k o is. let lt = slice_get_within outcomes k o is in omega arith in
+      let replies : (job : ℕ) (value : J) (r : R) → slice_get jobs job ≡ Some value → slice_get outcomes job ≡ Some (outcome.Done r) → r ≡ answer state value =
+      λ job value r at_job is. subst (λ i. r ≡ answer state (slice_index_or jobs i value)) (omega arith) (told_at (answer state) jobs (moment_of w.bell) workers w.claimed few 0 job owners outcomes r w.each (within job (outcome.Done r) is) is value)
+      ∙ ap (answer state) (get_or_from_slice_get jobs job value value at_job) in
+      let began : (j : ℕ) → times_done (slice_get outcomes j) ≡ 1 → j < length turns =
+      λ j one. let r = reply_of (slice_get outcomes j) one in let lt = within j (outcome.Done r.0) r.1 in
+      long_turns (answer state) jobs (moment_of w.bell) workers w.claimed few 0 j owners outcomes w.each lt (omega arith) (claimed_done (answer state) jobs (moment_of w.bell) workers w.claimed few 0 j owners outcomes r.0 w.each lt r.1) in
+      subst (RunsTo answer (Leaves outcomes (begun_over state jobs deadline)) (begun_over state jobs deadline)) (sym w.events)
+      (schedule_runs answer state jobs deadline (range_with_len 0 (length jobs)) (length jobs) outcomes (Leaves outcomes (begun_over state jobs deadline))
+      (λ drawn lt. let v = there jobs drawn lt in (v.0, listed_there 0 (length jobs) drawn lt ∙ ap Some (omega arith), v.1))
+      replies turns
+      (λ done hands. record { more = done; is = refl; each = hands.each; once = all_done (answer state) jobs outcomes turns done hands began })
+      w.bell
       (cuts_last workers 0 owners outcomes (own_all jobs w.claimed (moment_of w.bell) (entries_from 0 owners outcomes) w.each) w.backs)
+      (in_row (answer state) jobs (moment_of w.bell) workers w.claimed few 0 owners outcomes w.each)
+      (tell_all outcomes 0 owners outcomes (λ i. ap (slice_get outcomes) (omega arith)))
       (let f = few_turns 0 owners outcomes in let o = w.owned in omega arith) (silent_cuts jobs w) (late_as w.bell w.late))
+
+  pub window_runs : (jobs : List J) → IsWindow (answer state) jobs told deadline workers outcomes owners list → workers ≤ 16 → RunsIn answer (begun_over state jobs deadline) list
+  window_runs jobs w few = runs_in answer (Leaves outcomes (begun_over state jobs deadline)) (begun_over state jobs deadline) list (served jobs w few)
+
+  pub window_leaves : (jobs : List J) → IsWindow (answer state) jobs told deadline workers outcomes owners list → workers ≤ 16
+      → Leaves outcomes (begun_over state jobs deadline) (after_window answer (begun_over state jobs deadline) list)
+  window_leaves jobs w few = runs_end answer (Leaves outcomes (begun_over state jobs deadline)) (begun_over state jobs deadline) list (served jobs w few)

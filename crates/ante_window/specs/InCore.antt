@@ -1,11 +1,15 @@
 -- A window's events as those of the window core.
-use Rattle.std.specs.Prelude.{ℕ, Bool, true, false, List, [], ◌∷◌, length, Some, None, IsSome}
-use Rattle.std.specs.List.{range_with_len}
+use Rattle.std.specs.Prelude.{◌≡◌, ℕ, Bool, true, false, List, [], ◌∷◌, ◌++◌, map, length, slice_get, Option, Some, None, IsSome}
+use Rattle.std.specs.List.{AllByRecursion, range_with_len}
 use Rattle.ante_core.specs.declared.Piece.TheVariants.{Ready}
 use Rattle.ante_core.specs.declared.Event.{Event}
 use Rattle.ante_core.specs.declared.Event.TheVariants as core
+use Rattle.ante_core.specs.declared.DoneJob.{DoneJob}
 use Rattle.ante_core.specs.Machine.{Meaning, State, core_step}
-use Rattle.ante_core.specs.Runs.{after_event}
+use Rattle.ante_core.specs.Runs.{after_event, run}
+use Rattle.ante_pool.specs.Seats.{times}
+use Rattle.ante_window.specs.declared.outcome.Outcome.{Outcome}
+use Rattle.ante_window.specs.declared.outcome.Outcome.TheVariants.{Done, Back, OutOfMemory}
 use Rattle.ante_window.specs.declared.schedule.WindowEvent.{WindowEvent}
 use Rattle.ante_window.specs.declared.schedule.WindowEvent.TheVariants as event
 
@@ -36,3 +40,22 @@ begun_over state jobs deadline = record {
 abbrev pub RunsIn : {S J R : Type 0} → (S → J → R) → State S J J R → List WindowEvent → Type 0
 RunsIn answer s [] = Unit {0}
 RunsIn answer s (e ∷ es) = IsSome (core_step (meaning answer) s (in_core e).0) × RunsIn answer (after_event (meaning answer) s (in_core e)) es
+
+-- the core after these events
+abbrev pub after_window : {S J R : Type 0} → (S → J → R) → State S J J R → List WindowEvent → State S J J R
+after_window answer s events = run (meaning answer) s (map (λ e. in_core e) events)
+
+-- how often a job of this outcome gets onto the done list
+abbrev pub times_done : {R : Type 0} → Option (Outcome R) → ℕ
+times_done None = 0
+times_done (Some (Done r)) = 1
+times_done (Some (Back at)) = 0
+times_done (Some OutOfMemory) = 0
+
+-- What a window's events leave of the core: no window, and the same world, position and jobs. The done list has grown by the jobs whose
+-- outcome is Done, each once, with its reply and at this position
+pub record Leaves {S J R : Type 0} (outcomes : List (Outcome R)) (old new : State S J J R) : Type 0 where
+  pub more : List (DoneJob R)
+  pub is : new ≡ record old { done = old.done ++ more; window = None }
+  pub each : AllByRecursion (λ (d : DoneJob R). (slice_get outcomes d.job ≡ Some (Done d.reply)) × (d.position ≡ old.position)) more
+  pub once : (job : ℕ) → times job (map (λ (d : DoneJob R). d.job) more) ≡ times_done (slice_get outcomes job)

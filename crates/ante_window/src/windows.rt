@@ -2,7 +2,7 @@
 
 ghost use Rattle.std.specs.Prelude.{◌≡◌, ℕ, ◌≤◌, length, IfOk};
 ghost use Rattle.ante_window.specs.Windows.{IsWindow};
-ghost use Rattle.ante_window.specs.InCore.{begun_over, RunsIn};
+ghost use Rattle.ante_window.specs.InCore.{begun_over, RunsIn, after_window, Leaves};
 
 use crate::fates::fates;
 use crate::outcome::Outcome;
@@ -40,6 +40,7 @@ pub fn run_window<R: Threads + Sync, S: ReadState + Sync, C: Clock + Sync, G: Ga
     requires jobs { length jobs.now ≤ 64 }
     ensures window { IfOk result (λ r. IsWindow (S.answer state.now) jobs.now (C.told clock.now) deadline workers r.outcomes r.owners r.events) }
     ensures runs { IfOk result (λ r. RunsIn S.answer (begun_over state.now jobs.now deadline) r.events) }
+    ensures done { IfOk result (λ r. let s = begun_over state.now jobs.now deadline in Leaves r.outcomes s (after_window S.answer s r.events)) }
 {
     let Report { log, bell, end } = run_log(
         rt, alloc, state, jobs, workers, clock, deadline, gate,
