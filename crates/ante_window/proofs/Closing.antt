@@ -21,7 +21,7 @@ use Rattle.ante_window.proofs.Taking.{of_in}
 one : (x : ℕ) → ◌≡◌ {A = ℕ} (cond (nat_eq x x) 1 0) 1
 one x = grind (arith, nat_tests)
 
-below_some : (x n : ℕ) → x < n → below x n ≡ 1
+pub below_some : (x n : ℕ) → x < n → below x n ≡ 1
 below_some x n lt = grind (arith, nat_tests)
 
 below_none : (x n : ℕ) → n ≤ x → below x n ≡ 0

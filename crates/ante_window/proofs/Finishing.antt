@@ -18,6 +18,7 @@ use Rattle.ante_window.specs.declared.schedule.Left.TheVariants.{Finished, Starv
 use Rattle.ante_window.specs.declared.schedule.Turn.{Turn}
 use Rattle.ante_window.specs.Schedule.{left_by, last_from, has_turn}
 use Rattle.ante_window.specs.InCore.{times_done}
+use Rattle.ante_window.proofs.Closing.{below_some}
 
 pub same_number : (x y : ℕ) → nat_eq x y ≡ true → x ≡ y
 same_number x y e = grind (arith, nat_tests)
@@ -99,9 +100,6 @@ times_more x (e ∷ ds) d = let t = times_more x ds d in omega arith
 
 next_below : (x n : ℕ) → times x (n ∷ []) + below x n ≡ below x (n + 1)
 next_below x n = let c : cond (nat_eq n x) 1 0 + below x n ≡ below x (n + 1) = grind (arith, nat_tests) in omega arith
-
-below_some : (x n : ℕ) → x < n → below x n ≡ 1
-below_some x n lt = grind (arith, nat_tests)
 
 no_below : (x : ℕ) → below x 0 ≡ 0
 no_below x = grind (arith, nat_tests)

@@ -1,4 +1,4 @@
-//! A gate that holds readers until all four jobs are in their hands, and a clock that tells the deadline once two are done.
+//! A gate that holds readers until all four jobs are in their hands, and a clock that tells the deadline once some are done.
 
 ghost use Rattle.std.specs.Prelude.{◌≡◌, ◌⊎◌};
 
@@ -12,14 +12,17 @@ const MOST_TURNS: u64 = 200_000_000;
 /// What the readers of four jobs have come to.
 #[derive(Drop)]
 pub struct Turnstile {
+    /// How many jobs are done before the deadline, the first ones.
+    first: u32,
     claimed: AtomicU64,
     finished: AtomicU64,
     failed: AtomicU64,
 }
 
 impl Turnstile {
-    pub fn new() -> Turnstile {
+    pub fn new(first: u32) -> Turnstile {
         Turnstile {
+            first,
             claimed: AtomicU64::new(0),
             finished: AtomicU64::new(0),
             failed: AtomicU64::new(0),
@@ -49,8 +52,8 @@ impl Gate for Turnstile {
             GatePoint::Claimed => {
                 self.claimed.fetch_add(1, Ordering::SeqCst);
                 self.hold(&self.claimed, 4);
-                if job >= 2 {
-                    self.hold(&self.finished, 2);
+                if job >= self.first {
+                    self.hold(&self.finished, u64::from(self.first));
                 }
             }
             GatePoint::Finished => {
@@ -64,7 +67,7 @@ impl Clock for Turnstile {
     ghost told = { λ clock moment. (moment ≡ 5) ⊎ (moment ≡ 10) };
 
     fn now(&self) -> u64 {
-        if self.finished.load(Ordering::SeqCst) >= 2 {
+        if self.finished.load(Ordering::SeqCst) >= u64::from(self.first) {
             10
         } else {
             5

@@ -8,4 +8,6 @@ mod jobs;
 #[cfg(test)]
 mod rows;
 #[cfg(test)]
+mod shaft;
+#[cfg(test)]
 mod tables;

@@ -101,7 +101,7 @@ fn four_readers_have_four_jobs_at_once(rt: HostRuntime) -> Result<(), Fail> {
         work(20_000, 9),
         work(20_000, 10),
     ];
-    let gate = Turnstile::new();
+    let gate = Turnstile::new(2);
     let report = run_window(&rt, rt.alloc(), &Bench, &jobs, 4, &gate, 10, &gate)?;
     assert!(rt; !gate.has_failed());
     assert!(rt;
