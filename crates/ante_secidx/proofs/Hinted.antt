@@ -1,7 +1,6 @@
 -- Rows and hints as they change, and what a hint tells of the rows.
 use Rattle.std.proofs.Common.{◌≡◌, ℕ, Bool, true, false, true≢false, cond, not, T, List, [], ◌∷◌, Option, Some, None, is_some, option_map, Result, Ok, Err, OnOk, OnErr, refl, sym, ap, subst, ◌∙◌, Ordering, is_eq}
 use Rattle.std.specs.Ordering.{eq_by_cmp}
-use Rattle.std.specs.Prelude.{MatchOption}
 use Rattle.std.specs.Cmp.{IsTotalOrder}
 use Rattle.std.specs.List.{AllByRecursion}
 use Rattle.std.specs.FinMap.{IsAntisymmetric}
@@ -19,7 +18,7 @@ use Rattle.ante_state.specs.Orders.{row_order}
 use Rattle.ante_state.specs.declared.tables.RowKey.{RowKey}
 use Rattle.ante_secidx.specs.declared.keys.IndexKey.{IndexKey}
 use Rattle.ante_secidx.specs.Index.{Rows, index_key, row_key, index_row, index_order, without, without_index_row}
-use Rattle.ante_secidx.specs.Hints.{FitsAt, IsHinted, AreHinted}
+use Rattle.ante_secidx.specs.Hints.{FitsAt, IsHinted, AreHinted, Tells}
 
 some_none : {X : Type 0} (x : X) → Some x ≡ None → ⊥
 some_none x h = absurd (true≢false (ap is_some h))
@@ -119,7 +118,7 @@ module _ {K : Type 0} (fits : K → Type 0) (exact : IsAntisymmetric row_order) 
             ∙ gone e.0 found.0.1 m all
 
     -- what is told of a row, if something is
-    pub tells : (rows : IsTotalOrder row_order) (places : IsAntisymmetric (index_order keys)) (t : TableKey) (p : ℕ) (m : Rows K) (key : Option K) → AllByRecursion (λ e. IsHinted fits hints e.0) m → key ≡ find row_order (record { table = t; primary = p }) hints → MatchOption key (index_row t p m ≡ None) (λ key. index_row t p m ≡ option_map (λ payer. (index_key t key p, payer)) (find (index_order keys) (index_key t key p) m))
+    pub tells : (rows : IsTotalOrder row_order) (places : IsAntisymmetric (index_order keys)) (t : TableKey) (p : ℕ) (m : Rows K) (key : Option K) → AllByRecursion (λ e. IsHinted fits hints e.0) m → key ≡ find row_order (record { table = t; primary = p }) hints → Tells keys t p m key
     tells rows places t p m None all is = none_told t p m all (sym is)
     tells rows places t p m (Some key) all is = told rows places t key p m all (sym is)
 

@@ -1,3 +1,4 @@
 mod Neighbours
 mod Bounds
 mod Hinted
+mod Listed

@@ -3,6 +3,8 @@
 use Rattle.std.specs.Prelude.{ℕ, List, [], ◌∷◌, Option, Some, None, if◌then◌else◌}
 use Rattle.std.specs.declared.cmp.Ordering.{Ordering}
 use Rattle.std.specs.Ordering.{nat_cmp, ordering_then, is_ge, is_gt, is_eq, eq_by_cmp}
+use Rattle.std.specs.Option.{option_map}
+use Rattle.std.specs.FinMap.Entries.{find}
 use Rattle.ante_undo.specs.Entries.{changed, first_where}
 use Rattle.ante_pack.specs.declared.names.Name.{Name}
 use Rattle.ante_pack.specs.declared.names.TableKey.{TableKey}
@@ -32,7 +34,8 @@ module _ {K : Type 0} where
   -- the rows of a table in their order, each as its secondary and its primary key
   abbrev pub index_of : TableKey → Rows K → List ((K × ℕ) × Name)
   index_of table [] = []
-  index_of table (e ∷ es) = if eq_by_cmp table_order e.0.table table then ((e.0.key, e.0.primary), e.1) ∷ index_of table es else index_of table es
+  index_of table (e ∷ es) =
+      if eq_by_cmp table_order e.0.table table then ((e.0.key, e.0.primary), e.1) ∷ index_of table es else index_of table es
 
   -- a row as one of the table's, if it is one
   abbrev pub in_table : TableKey → Option (IndexKey K × Name) → Option ((K × ℕ) × Name)
@@ -43,9 +46,12 @@ module _ {K : Type 0} where
   abbrev pub index_row : TableKey → ℕ → Rows K → Option (IndexKey K × Name)
   index_row table primary = first_where (λ row. eq_by_cmp row_order (row_key row) (record { table = table; primary = primary }))
 
-  -- its secondary key and who pays for it
+  -- a row with its secondary key and who pays for it, and the same of a table's list
   abbrev pub key_and_payer : IndexKey K × Name → K × Name
   key_and_payer e = (e.0.key, e.1)
+
+  abbrev pub listed_key : (K × ℕ) × Name → K × Name
+  listed_key e = (e.0.0, e.1)
 
 module _ {K : Type 0} (keys : K → K → Ordering) where
   -- by secondary key, then by primary key
@@ -82,3 +88,11 @@ module _ {K : Type 0} (keys : K → K → Ordering) where
   -- the rows without the table's row with the primary key
   abbrev pub without_index_row : TableKey → ℕ → Rows K → Rows K
   without_index_row table primary m = without (index_row table primary m) m
+
+  -- the rows with the table's row under another secondary key and with another payer
+  abbrev pub moved : TableKey → K → ℕ → Name → Rows K → Rows K
+  moved table key primary payer m = with_index_row table key primary payer (without_index_row table primary m)
+
+  -- the row under the secondary key, if it is there
+  abbrev pub row_under : TableKey → K → ℕ → Rows K → Option (IndexKey K × Name)
+  row_under table key primary m = option_map (λ payer. (index_key table key primary, payer)) (find index_order (index_key table key primary) m)

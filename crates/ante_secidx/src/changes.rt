@@ -1,10 +1,10 @@
 // What changes the rows.
-ghost use Rattle.std.specs.Prelude.{◌≡◌, Some, None, Err, OnOk, OnErr, IfErr, IsSome, IsNone};
+ghost use Rattle.std.specs.Prelude.{◌<◌, length, ◌≡◌, Some, None, Err, OnOk, OnErr, IfErr, IsSome, IsNone};
 ghost use Rattle.std.specs.Option.{option_map};
 ghost use Rattle.ante_undo.specs.Stack.{with_top, IsAbove};
 ghost use Rattle.ante_undo.specs.Entries.{changed};
 ghost use Rattle.ante_state.specs.Orders.{row_order};
-ghost use Rattle.ante_secidx.specs.Index.{index_key, index_row, index_order, row_key, with_index_row, without_index_row};
+ghost use Rattle.ante_secidx.specs.Index.{index_key, index_row, index_order, row_key, with_index_row, without_index_row, moved};
 ghost use Rattle.ante_secidx.specs.Faults.{IsInsertFault, IsChangeFault};
 ghost use Rattle.ante_secidx.specs.declared.fault.SecFault.TheVariants.{Missing};
 
@@ -13,9 +13,12 @@ use crate::index::{Parts, SecIndex};
 use crate::keys::{IndexKey, SecKey};
 use crate::laws::orders_hold;
 use ante_pack::{Name, TableKey};
-use ante_sessions::set_entry;
+use ante_sessions::{Sessions, set_entry};
 use ante_state::RowKey;
 use std::alloc::{AllocError, Global};
+
+/// No session begins after it.
+const LAST_REVISION: u64 = 9_223_372_036_854_775_807;
 
 impl<K: SecKey> SecIndex<K> {
     /// A new row of the table.
@@ -40,7 +43,8 @@ impl<K: SecKey> SecIndex<K> {
         Ok(())
     }
 
-    /// Another secondary key and another payer for a row of the table. After want of memory nothing is said of the newest rows.
+    /// Another secondary key and another payer for a row of the table. Where no session is open, nothing is said of the rows
+    /// after want of memory.
     pub fn update(
         &mut self,
         alloc: Global,
@@ -51,16 +55,20 @@ impl<K: SecKey> SecIndex<K> {
     ) -> Result<(), SecFault>
         requires above { IsAbove 1 self.old }
         ensures granted { OnOk result (IsSome (index_row table primary self.old.top)) }
-        ensures ok { OnOk result (self.new ≡ with_top (with_index_row K.cmp table key primary payer (without_index_row K.cmp table primary self.old.top)) self.old) }
+        ensures ok { OnOk result (self.new ≡ with_top (moved K.cmp table key primary payer self.old.top) self.old) }
         ensures fault { IfErr result (IsChangeFault table primary self.old.top) }
         ensures missing { result ≡ Err Missing → self.new ≡ self.old }
+        ensures err { OnErr result (0 < length self.old.under → self.new ≡ self.old) }
         ensures top { self.new ≡ with_top self.new.top self.old }
     {
         let Some(old) = self.place(table, primary) else {
             return Err(SecFault::Missing);
         };
-        self.take_row(alloc, table, primary, old)?;
-        self.put_row(alloc, table, key, primary, payer)?;
+        if self.sessions() == 0 {
+            self.move_row(alloc, old, table, key, primary, payer)?;
+        } else {
+            self.move_whole(alloc, old, table, key, primary, payer)?;
+        }
         Ok(())
     }
 
@@ -72,12 +80,63 @@ impl<K: SecKey> SecIndex<K> {
         ensures fault { IfErr result (IsChangeFault table primary self.old.top) }
         ensures err { OnErr result (self.new ≡ self.old) }
     {
-        let Some(old) = self.place(table, primary) else {
+        let Some(gone) = self.place(table, primary) else {
             return Err(SecFault::Missing);
         };
-        self.take_row(alloc, table, primary, old)?;
+        self.take_row(alloc, table, primary, gone)?;
         self.forget_hint(alloc, table, primary);
         Ok(())
+    }
+
+    // Moves the row, which stands at the place. After a refusal nothing is said of the newest rows.
+    fn move_row(
+        &mut self,
+        alloc: Global,
+        old: IndexKey<K>,
+        table: TableKey,
+        key: K,
+        primary: u64,
+        payer: Name,
+    ) -> Result<(), AllocError>
+        requires above { IsAbove 1 self.old }
+        requires there { option_map (λ e. e.0) (index_row table primary self.old.top) ≡ Some old }
+        ensures ok { OnOk result (self.new ≡ with_top (moved K.cmp table key primary payer self.old.top) self.old) }
+        ensures top { self.new ≡ with_top self.new.top self.old }
+    {
+        self.take_row(alloc, table, primary, old)?;
+        self.put_row(alloc, table, key, primary, payer)
+    }
+
+    // Moves the row, or leaves all as it was: what a refusal leaves half done is taken back with a session inside.
+    fn move_whole(
+        &mut self,
+        alloc: Global,
+        old: IndexKey<K>,
+        table: TableKey,
+        key: K,
+        primary: u64,
+        payer: Name,
+    ) -> Result<(), AllocError>
+        requires session { 0 < length self.old.under }
+        requires above { IsAbove 1 self.old }
+        requires there { option_map (λ e. e.0) (index_row table primary self.old.top) ≡ Some old }
+        ensures ok { OnOk result (self.new ≡ with_top (moved K.cmp table key primary payer self.old.top) self.old) }
+        ensures err { OnErr result (self.new ≡ self.old) }
+    {
+        if self.revision() >= LAST_REVISION {
+            return Err(AllocError);
+        }
+        self.begin(alloc)?;
+        match self.move_row(alloc, old, table, key, primary, payer) {
+            Ok(()) => {
+                self.squash();
+                Ok(())
+            }
+            Err(refused) => {
+                self.undo();
+                Err(refused)
+            }
+        }
     }
 
     // Puts a row where the table has none with its primary key: first its hint, which changes no row, and then the row.

@@ -1,11 +1,11 @@
-ghost use Rattle.std.specs.Prelude.{◌≡◌, [], ◌<◌, ◌≤◌, ◌^◌, MatchOption, None, IsTrue};
+ghost use Rattle.std.specs.Prelude.{◌≡◌, [], ◌<◌, ◌≤◌, ◌^◌, IsTrue};
 ghost use Rattle.std.specs.Option.{option_map};
 ghost use Rattle.std.specs.List.{AllByRecursion};
-ghost use Rattle.std.specs.FinMap.Entries.{find, is_sorted};
+ghost use Rattle.std.specs.FinMap.Entries.{is_sorted};
 ghost use Rattle.ante_undo.specs.Stack.{opened};
 ghost use Rattle.ante_secidx.specs.Keys.{greatest_64};
-ghost use Rattle.ante_secidx.specs.Index.{index_key, index_row, index_order};
-ghost use Rattle.ante_secidx.specs.Hints.{AreHinted, FitsAt};
+ghost use Rattle.ante_secidx.specs.Index.{index_row, index_order};
+ghost use Rattle.ante_secidx.specs.Hints.{AreHinted, FitsAt, Tells};
 
 use crate::keys::{IndexKey, SecKey};
 use crate::laws::orders_hold;
@@ -74,7 +74,7 @@ impl<K: SecKey> SecIndex<K> {
 
     // The secondary key under which to look for the table's row with the primary key.
     pub(crate) fn hint(&self, table: TableKey, primary: u64) -> Option<K>
-        ensures { MatchOption result (index_row table primary self.now.top ≡ None) (λ key. index_row table primary self.now.top ≡ option_map (λ payer. (index_key table key primary, payer)) (find (index_order K.cmp) (index_key table key primary) self.now.top)) }
+        ensures { Tells K.cmp table primary self.now.top result }
     {
         orders_hold::<K>();
         let row = RowKey { table, primary };

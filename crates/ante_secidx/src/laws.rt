@@ -1,9 +1,12 @@
 // What proofs rest on, each as a function whose contract is all that it is for.
-ghost use Rattle.std.specs.Prelude.{◌≡◌};
+ghost use Rattle.std.specs.Prelude.{◌≡◌, ◌==◌, ℕ};
+ghost use Rattle.std.specs.Option.{option_map};
 ghost use Rattle.std.specs.Cmp.{IsTotalOrder};
 ghost use Rattle.std.specs.FinMap.{IsAntisymmetric};
 ghost use Rattle.ante_state.specs.Orders.{row_order};
-ghost use Rattle.ante_secidx.specs.Index.{index_order};
+ghost use Rattle.ante_undo.specs.Entries.{first_where};
+ghost use Rattle.ante_pack.specs.declared.names.TableKey.{TableKey};
+ghost use Rattle.ante_secidx.specs.Index.{Rows, index_of, index_row, index_order, key_and_payer, listed_key};
 
 use crate::keys::{IndexKey, SecKey};
 use ante_state::{RowKey, total_order};
@@ -11,6 +14,12 @@ use ante_state::{RowKey, total_order};
 /// Rows are ordered by table, then by secondary key, then by primary key.
 pub fn index_is_ordered<K: SecKey>()
     ensures { ⟦<IndexKey<K> as Ord>⟧.cmp ≡ index_order K.cmp }
+{}
+
+/// A row found by its primary key among all rows is the one found in its table's list.
+pub fn rows_are_listed<K: SecKey>()
+    ensures { (table : TableKey) (primary : ℕ) (m : Rows K) → option_map key_and_payer (index_row table primary m)
+        ≡ option_map listed_key (first_where (λ pair. pair.1 == primary) (index_of table m)) }
 {}
 
 // The orders are total, and keys that tie are one.

@@ -12,4 +12,4 @@ mod lookups;
 pub use fault::SecFault;
 pub use index::SecIndex;
 pub use keys::{IndexKey, SecKey};
-pub use laws::index_is_ordered;
+pub use laws::{index_is_ordered, rows_are_listed};

@@ -1,16 +1,17 @@
 // What is found among the rows.
-ghost use Rattle.std.specs.Prelude.{◌≡◌, Option, Some, is_some, IsTrue};
+ghost use Rattle.std.specs.Prelude.{◌≡◌, ◌==◌, Option, Some, is_some, IsTrue};
 ghost use Rattle.std.specs.Option.{option_map};
-ghost use Rattle.std.specs.FinMap.Entries.{find, is_sorted};
+ghost use Rattle.std.specs.FinMap.Entries.{is_sorted};
 ghost use Rattle.std.specs.Map.Iter.{deref_pair};
-ghost use Rattle.ante_undo.specs.Entries.{entry_from, entry_after, entry_before, entry_up_to, first_entry, last_entry};
+ghost use Rattle.ante_undo.specs.Entries.{first_where, entry_from, entry_after, entry_before, entry_up_to, first_entry, last_entry};
 ghost use Rattle.ante_sessions.specs.Walk.{past};
 ghost use Rattle.ante_secidx.specs.Index as index;
-ghost use Rattle.ante_secidx.specs.Index.{index_key, index_of, index_row, key_and_payer, place_key, shown_row, pair_order, index_order};
+ghost use Rattle.ante_secidx.specs.Index.{index_of, index_row, key_and_payer, place_key, shown_row, pair_order, index_order, row_under, listed_key};
 ghost use Rattle.ante_secidx.specs.Index.{lower_bound, upper_bound, exact_match};
 
 use crate::index::SecIndex;
 use crate::keys::{IndexKey, SecKey};
+use crate::laws::rows_are_listed;
 use ante_pack::{Name, TableKey};
 use ante_sessions::next_entry;
 use ante_state::total_order;
@@ -19,8 +20,10 @@ impl<K: SecKey> SecIndex<K> {
     /// The secondary key of the table's row with the primary key, and who pays for the row.
     pub fn by_primary(&self, table: TableKey, primary: u64) -> Option<(K, Name)>
         ensures found { result ≡ option_map key_and_payer (index_row table primary self.now.top) }
+        ensures listed { result ≡ option_map listed_key (first_where (λ pair. pair.1 == primary) (index_of table self.now.top)) }
         ensures there { is_some result ≡ is_some (index_row table primary self.now.top) }
     {
+        rows_are_listed::<K>();
         match self.hint(table, primary) {
             Some(key) => self.paid_at(table, key, primary),
             None => None,
@@ -114,7 +117,7 @@ impl<K: SecKey> SecIndex<K> {
 
     // The secondary key of the row at the place, and who pays for the row, if there is one.
     fn paid_at(&self, table: TableKey, key: K, primary: u64) -> Option<(K, Name)>
-        ensures { result ≡ option_map key_and_payer (option_map (λ payer. (index_key table key primary, payer)) (find (index_order K.cmp) (index_key table key primary) self.now.top)) }
+        ensures { result ≡ option_map key_and_payer (row_under K.cmp table key primary self.now.top) }
     {
         let place = IndexKey {
             table,
@@ -150,7 +153,7 @@ impl<K: SecKey> SecIndex<K> {
         ensures { IsTrue (is_sorted (pair_order K.cmp) (index_of table self.now.top)) }
     {
         total_order::<TableKey>();
-        let _rows = self.rows();
+        let _all = self.rows();
         true
     }
 }
