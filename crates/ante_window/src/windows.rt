@@ -38,9 +38,11 @@ pub fn run_window<R: Threads + Sync, S: ReadState + Sync, C: Clock + Sync, G: Ga
 ) -> Result<WindowReport<S::Reply>, AllocError>
     requires workers { (1 ≤ workers) × (workers ≤ 16) }
     requires jobs { length jobs.now ≤ 64 }
-    ensures window { IfOk result (λ r. IsWindow (S.answer state.now) jobs.now (C.told clock.now) deadline workers r.outcomes r.owners r.events) }
+    ensures window { IfOk result (λ r.
+        IsWindow (S.answer state.now) jobs.now (C.told clock.now) deadline workers r.outcomes r.owners r.events) }
     ensures runs { IfOk result (λ r. RunsIn S.answer (begun_over state.now jobs.now deadline) r.events) }
-    ensures done { IfOk result (λ r. let s = begun_over state.now jobs.now deadline in Leaves r.outcomes s (after_window S.answer s r.events)) }
+    ensures done { IfOk result (λ r. let s = begun_over state.now jobs.now deadline in
+        Leaves r.outcomes s (after_window S.answer s r.events)) }
 {
     let Report { log, bell, end } = run_log(
         rt, alloc, state, jobs, workers, clock, deadline, gate,
