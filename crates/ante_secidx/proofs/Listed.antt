@@ -1,12 +1,10 @@
 -- A row found by its primary key stands in its table's list.
-use Rattle.std.proofs.Common.{◌≡◌, ℕ, ◌==◌, Bool, true, false, cond, List, [], ◌∷◌, Option, Some, option_map, refl, ap, ◌∙◌, Ordering, Less, Equal, Greater, is_eq}
+use Rattle.std.proofs.Common.{◌≡◌, ℕ, ◌==◌, true, false, cond, [], ◌∷◌, Some, option_map, refl, ap, ◌∙◌, Less, Equal, Greater, is_eq}
 use Rattle.std.specs.Ordering.{nat_cmp, ordering_then}
 use Rattle.std.specs.Cmp.{unsigned_tied}
 use Rattle.ante_undo.specs.Entries.{first_where}
-use Rattle.ante_pack.specs.declared.names.Name.{Name}
 use Rattle.ante_pack.specs.declared.names.TableKey.{TableKey}
 use Rattle.ante_state.specs.Orders.{table_order}
-use Rattle.ante_secidx.specs.declared.keys.IndexKey.{IndexKey}
 use Rattle.ante_secidx.specs.Index.{Rows, index_of, index_row, key_and_payer, listed_key}
 
 module _ {K : Type 0} where

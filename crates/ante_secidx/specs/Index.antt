@@ -37,6 +37,10 @@ module _ {K : Type 0} where
   index_of table (e ∷ es) =
       if eq_by_cmp table_order e.0.table table then ((e.0.key, e.0.primary), e.1) ∷ index_of table es else index_of table es
 
+  -- its two keys
+  abbrev pub pair_of : Option ((K × ℕ) × Name) → Option (K × ℕ)
+  pair_of = option_map (λ e. e.0)
+
   -- a row as one of the table's, if it is one
   abbrev pub in_table : TableKey → Option (IndexKey K × Name) → Option ((K × ℕ) × Name)
   in_table table None = None
@@ -95,4 +99,5 @@ module _ {K : Type 0} (keys : K → K → Ordering) where
 
   -- the row under the secondary key, if it is there
   abbrev pub row_under : TableKey → K → ℕ → Rows K → Option (IndexKey K × Name)
-  row_under table key primary m = option_map (λ payer. (index_key table key primary, payer)) (find index_order (index_key table key primary) m)
+  row_under table key primary m =
+      option_map (λ payer. (index_key table key primary, payer)) (find index_order (index_key table key primary) m)

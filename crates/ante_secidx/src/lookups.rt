@@ -6,7 +6,8 @@ ghost use Rattle.std.specs.Map.Iter.{deref_pair};
 ghost use Rattle.ante_undo.specs.Entries.{first_where, entry_from, entry_after, entry_before, entry_up_to, first_entry, last_entry};
 ghost use Rattle.ante_sessions.specs.Walk.{past};
 ghost use Rattle.ante_secidx.specs.Index as index;
-ghost use Rattle.ante_secidx.specs.Index.{index_of, index_row, key_and_payer, place_key, shown_row, pair_order, index_order, row_under, listed_key};
+ghost use Rattle.ante_secidx.specs.Index.{index_of, index_row, key_and_payer, listed_key, pair_of, place_key, shown_row};
+ghost use Rattle.ante_secidx.specs.Index.{pair_order, index_order, row_under};
 ghost use Rattle.ante_secidx.specs.Index.{lower_bound, upper_bound, exact_match};
 
 use crate::index::SecIndex;
@@ -32,7 +33,7 @@ impl<K: SecKey> SecIndex<K> {
 
     /// The first row of the table whose secondary key is at least the given one, as its secondary and its primary key.
     pub fn lower(&self, table: TableKey, key: K) -> Option<(K, u64)>
-        ensures { result ≡ option_map (λ e. e.0) (lower_bound K.cmp key (index_of table self.now.top)) }
+        ensures { result ≡ pair_of (lower_bound K.cmp key (index_of table self.now.top)) }
     {
         self.first_from(IndexKey {
             table,
@@ -43,7 +44,7 @@ impl<K: SecKey> SecIndex<K> {
 
     /// The first row of the table whose secondary key is above the given one.
     pub fn upper(&self, table: TableKey, key: K) -> Option<(K, u64)>
-        ensures { result ≡ option_map (λ e. e.0) (upper_bound K.cmp key (index_of table self.now.top)) }
+        ensures { result ≡ pair_of (upper_bound K.cmp key (index_of table self.now.top)) }
     {
         let _rows = self.rows();
         self.first_after(IndexKey {
@@ -55,7 +56,7 @@ impl<K: SecKey> SecIndex<K> {
 
     /// The first row of the table with the secondary key.
     pub fn exact(&self, table: TableKey, key: K) -> Option<(K, u64)>
-        ensures { result ≡ option_map (λ e. e.0) (exact_match K.cmp key (index_of table self.now.top)) }
+        ensures { result ≡ pair_of (exact_match K.cmp key (index_of table self.now.top)) }
     {
         total_order::<K>();
         let _ordered = self.is_ordered(table);
@@ -64,7 +65,7 @@ impl<K: SecKey> SecIndex<K> {
 
     /// The row of the table that comes next after the place.
     pub fn next(&self, table: TableKey, key: K, primary: u64) -> Option<(K, u64)>
-        ensures { result ≡ option_map (λ e. e.0) (entry_after (pair_order K.cmp) (key, primary) (index_of table self.now.top)) }
+        ensures { result ≡ pair_of (entry_after (pair_order K.cmp) (key, primary) (index_of table self.now.top)) }
     {
         self.first_after(IndexKey {
             table,
@@ -75,7 +76,7 @@ impl<K: SecKey> SecIndex<K> {
 
     /// The row of the table that comes last before the place.
     pub fn previous(&self, table: TableKey, key: K, primary: u64) -> Option<(K, u64)>
-        ensures { result ≡ option_map (λ e. e.0) (entry_before (pair_order K.cmp) (key, primary) (index_of table self.now.top)) }
+        ensures { result ≡ pair_of (entry_before (pair_order K.cmp) (key, primary) (index_of table self.now.top)) }
     {
         total_order::<TableKey>();
         let rows = self.rows();
@@ -91,7 +92,7 @@ impl<K: SecKey> SecIndex<K> {
 
     /// The last row of the table.
     pub fn last(&self, table: TableKey) -> Option<(K, u64)>
-        ensures { result ≡ option_map (λ e. e.0) (last_entry (index_of table self.now.top)) }
+        ensures { result ≡ pair_of (last_entry (index_of table self.now.top)) }
     {
         total_order::<TableKey>();
         let rows = self.rows();
@@ -132,7 +133,7 @@ impl<K: SecKey> SecIndex<K> {
 
     // The first row of the place's table that isn't before the place.
     fn first_from(&self, place: IndexKey<K>) -> Option<(K, u64)>
-        ensures { result ≡ option_map (λ e. e.0) (entry_from (pair_order K.cmp) (place.key, place.primary) (index_of place.table self.now.top)) }
+        ensures { result ≡ pair_of (entry_from (pair_order K.cmp) (place.key, place.primary) (index_of place.table self.now.top)) }
     {
         total_order::<TableKey>();
         let rows = self.rows();
@@ -141,7 +142,7 @@ impl<K: SecKey> SecIndex<K> {
 
     // The first row of the place's table that is after the place.
     fn first_after(&self, place: IndexKey<K>) -> Option<(K, u64)>
-        ensures { result ≡ option_map (λ e. e.0) (entry_after (pair_order K.cmp) (place.key, place.primary) (index_of place.table self.now.top)) }
+        ensures { result ≡ pair_of (entry_after (pair_order K.cmp) (place.key, place.primary) (index_of place.table self.now.top)) }
     {
         total_order::<TableKey>();
         let rows = self.rows();
@@ -160,7 +161,7 @@ impl<K: SecKey> SecIndex<K> {
 
 // A row as one of the table's, if it is one.
 fn pair_in<K: SecKey>(table: TableKey, row: Option<(&IndexKey<K>, &Name)>) -> Option<(K, u64)>
-    ensures { result ≡ option_map (λ e. e.0) (index.in_table table (option_map deref_pair row.entry)) }
+    ensures { result ≡ pair_of (index.in_table table (option_map deref_pair row.entry)) }
 {
     match row {
         Some((at, _)) => {
