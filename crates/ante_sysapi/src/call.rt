@@ -9,7 +9,7 @@ ghost use Rattle.ante_calls.specs.Views.{base_of, ReadyFor, said};
 ghost use Rattle.ante_sysapi.specs.Answers.{Answers, view};
 
 use crate::numbers::call_at;
-use crate::{action, authorization, control};
+use crate::{accounts, action, authorization, control, hashes, moving};
 use ante_calls::SysCall;
 use ante_store::Tables;
 use ante_types::{Failure, RunContext};
@@ -43,9 +43,23 @@ fn answer<T: Tables>(
         SysCall::CurrentReceiver => action::current_receiver(run),
         SysCall::GetSender => action::get_sender(run),
         SysCall::TransactionSize => action::size(packed),
+        SysCall::ReadTransaction => action::copy(packed, args, memory, left),
+        SysCall::Expiration => action::expiration(packed, alloc),
+        SysCall::TaposBlockNum => action::tapos_block_num(packed, alloc),
+        SysCall::TaposBlockPrefix => action::tapos_block_prefix(packed, alloc),
         SysCall::CurrentTime => action::current_time(run),
         SysCall::PublicationTime => action::current_time(run),
+        SysCall::RequireAuth => authorization::require_auth(args, run),
         SysCall::RequireAuth2 => authorization::require_auth2(args, run),
+        SysCall::HasAuth => authorization::has_auth(args, run),
+        SysCall::IsAccount => accounts::is_account_call(args, run, tables),
+        SysCall::IsPrivileged => accounts::is_privileged_call(args, run, tables),
+        SysCall::Memcpy => moving::memcpy(args, memory, alloc, left),
+        SysCall::Memmove => moving::memmove(args, memory, alloc, left),
+        SysCall::Memset => moving::memset(args, memory, alloc, left),
+        SysCall::Memcmp => moving::memcmp(args, memory, left),
+        SysCall::Sha256 => hashes::sha256_call(args, memory, left),
+        SysCall::AssertSha256 => hashes::assert_sha256(args, memory, alloc, left),
         _ => HostAnswer::OutOfMemory,
     }
 }

@@ -1,11 +1,14 @@
 //! The intrinsics that aren't calls on tables.
 #![tactic(auto)]
 
+mod accounts;
 mod action;
 mod arguments;
 mod authorization;
 mod call;
 mod control;
+mod hashes;
+mod moving;
 mod numbers;
 
 pub use call::sys_call;
