@@ -47,6 +47,12 @@ pub(crate) fn size(bytes: &[u8]) -> HostAnswer<Failure>
     HostAnswer::Value((bytes.len() % (1 << 32)) as u64)
 }
 
+pub(crate) fn action_data_size(run: &RunContext) -> HostAnswer<Failure>
+    ensures { (m : LinearMemory) (left : _) → Says (λ v. action.action_data_size v m left) result run.now run.now m left }
+{
+    HostAnswer::Value((run.action.bytes.len() % (1 << 32)) as u64)
+}
+
 // How many bytes there are where n is 0, else the first n of them and their count.
 fn shorter(n: u32, bytes: &[u8]) -> (u32, &[u8])
     ensures shorter { (result.0, result.1.now) ≡ calls.shorter n bytes.now }
@@ -80,6 +86,18 @@ pub(crate) fn copy(
     }
     put(memory, arg32(args, 0), front);
     HostAnswer::Value(u64::from(count))
+}
+
+pub(crate) fn read_action_data(
+    args: &[u64],
+    memory: &mut Memory,
+    run: &RunContext,
+    left: &mut u64,
+) -> HostAnswer<Failure>
+    ensures answer { Says (λ v. action.read_action_data v args.now memory.old left.old) result run.now run.now memory.new left.new }
+    ensures falls { left.new ≤ left.old }
+{
+    copy(run.action.bytes.as_slice(), args, memory, left)
 }
 
 pub(crate) fn expiration(packed: &[u8], alloc: Global) -> HostAnswer<Failure>

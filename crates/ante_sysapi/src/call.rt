@@ -42,6 +42,8 @@ fn answer<T: Tables>(
         SysCall::AssertCode => control::eosio_assert_code(args),
         SysCall::CurrentReceiver => action::current_receiver(run),
         SysCall::GetSender => action::get_sender(run),
+        SysCall::ActionDataSize => action::action_data_size(run),
+        SysCall::ReadActionData => action::read_action_data(args, memory, run, left),
         SysCall::TransactionSize => action::size(packed),
         SysCall::ReadTransaction => action::copy(packed, args, memory, left),
         SysCall::Expiration => action::expiration(packed, alloc),
