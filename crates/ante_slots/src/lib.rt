@@ -111,14 +111,10 @@ impl Slots {
         ensures ok { OnOk result (self.new.items ≡ self.old.items ++ replicate zeros 0) }
         ensures err { OnErr result (self.new.items ≡ self.old.items) }
     {
-        let count = self.count;
         self.make_room(alloc, zeros)?;
-        for _ in 0..zeros {
-            if let Err(error) = self.push(0) {
-                self.truncate(count);
-                return Err(error);
-            }
-        }
+        let end = self.count + zeros;
+        self.slots.as_mut_slice()[self.count..end].fill(0);
+        self.count = end;
         Ok(())
     }
 
