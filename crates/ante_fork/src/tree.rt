@@ -151,6 +151,13 @@ impl ForkTree {
         num_down(self.kept.as_slice(), &self.genesis, &self.head, num)
     }
 
+    /// Whose turn a slot is.
+    pub fn producer_at(&self, slot: u32) -> Name
+        ensures { result ≡ rules.producer_at self.now.producers slot }
+    {
+        producer_at(&self.producers, slot)
+    }
+
     /// Makes a kept block the head.
     pub fn set_head(&mut self, id: &Digest)
         requires kept { is_some (block_at id.now self.old) ≡ true }

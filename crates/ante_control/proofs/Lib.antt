@@ -1,0 +1,12 @@
+pub mod Worlds
+pub mod Ways
+pub mod Turns
+pub mod Switches
+pub mod Open
+pub mod Standing
+pub mod Entering
+pub mod Idle
+pub mod Starting
+pub mod Pushes
+pub mod History
+pub mod Sealing
