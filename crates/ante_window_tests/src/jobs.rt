@@ -1,6 +1,6 @@
 //! Jobs that take steps, and a state that runs them.
 
-ghost use Rattle.std.specs.Prelude.{◌≡◌};
+ghost use Rattle.std.specs.Prelude.{◌≡◌, ◌+◌, ◌%◌, ◌^◌};
 
 use ante_base::Stop;
 use ante_port::{ReadEnd, ReadState};
@@ -14,16 +14,20 @@ pub struct Work {
     pub starves: bool,
 }
 
-/// Runs jobs of work.
+/// Runs jobs of work. The position is added to each reply.
 #[derive(Drop)]
-pub struct Bench;
+pub struct Bench {
+    pub position: u64,
+}
+
+pub const FIRST: Bench = Bench { position: 0 };
 
 impl ReadState for Bench {
     type Job = Work;
 
     type Reply = u64;
 
-    ghost answer = { λ state job. job.reply };
+    ghost answer = { λ state job. (job.reply + state.position) % 2 ^ 64 };
 
     fn read<P: Stop>(
         &self,
@@ -41,6 +45,6 @@ impl ReadState for Bench {
                 }
             }
         }
-        Ok(ReadEnd::Done(job.reply))
+        Ok(ReadEnd::Done(job.reply.wrapping_add(self.position)))
     }
 }

@@ -1,10 +1,13 @@
 //! Windows whose ends are known in full.
+ghost use Rattle.std.specs.Prelude.{◌≤◌};
 
 use crate::bench::Turnstile;
-use crate::jobs::{Bench, Work};
+use crate::jobs::{Bench, FIRST, Work};
 use ante_base::{CountClock, FixedClock, OpenGate};
 use ante_window::{NOBODY, Outcome, WindowEvent, run_window};
+use std::alloc::{AllocError, Global};
 use std::test::Fail;
+use std::thread::Threads;
 
 /// A job of so many steps, with this reply.
 fn work(steps: u64, reply: u64) -> Work {
@@ -19,7 +22,7 @@ fn work(steps: u64, reply: u64) -> Work {
 fn no_job_is_claimed_at_the_deadline(rt: HostRuntime) -> Result<(), Fail> {
     let jobs = [work(1, 7), work(1, 8)];
     let clock = FixedClock { moment: 10 };
-    let report = run_window(&rt, rt.alloc(), &Bench, &jobs, 1, &clock, 10, &OpenGate)?;
+    let report = run_window(&rt, rt.alloc(), &FIRST, &jobs, 1, &clock, 10, &OpenGate)?;
     assert!(rt;
         report.outcomes.as_slice()
             == [Outcome::Back { at: 10 }, Outcome::Back { at: 10 }].as_slice()
@@ -40,7 +43,7 @@ fn no_job_is_claimed_at_the_deadline(rt: HostRuntime) -> Result<(), Fail> {
 fn one_reader_is_cut_in_its_second_job(rt: HostRuntime) -> Result<(), Fail> {
     let jobs = [work(1, 7), work(200, 8), work(1, 9)];
     let clock = CountClock::new(0, 1);
-    let report = run_window(&rt, rt.alloc(), &Bench, &jobs, 1, &clock, 4, &OpenGate)?;
+    let report = run_window(&rt, rt.alloc(), &FIRST, &jobs, 1, &clock, 4, &OpenGate)?;
     assert!(rt;
         report.outcomes.as_slice()
             == [
@@ -75,7 +78,7 @@ fn a_job_lacks_memory_in_its_middle(rt: HostRuntime) -> Result<(), Fail> {
     };
     let jobs = [work(1, 7), starving, work(1, 9)];
     let clock = FixedClock { moment: 5 };
-    let report = run_window(&rt, rt.alloc(), &Bench, &jobs, 1, &clock, 10, &OpenGate)?;
+    let report = run_window(&rt, rt.alloc(), &FIRST, &jobs, 1, &clock, 10, &OpenGate)?;
     assert!(rt;
         report.outcomes.as_slice()
             == [Outcome::Done(7), Outcome::OutOfMemory, Outcome::Done(9)].as_slice()
@@ -93,6 +96,28 @@ fn a_job_lacks_memory_in_its_middle(rt: HostRuntime) -> Result<(), Fail> {
     Ok(())
 }
 
+/// Whether the jobs that were cut are done over the state of a later position.
+fn are_done_later<R: Threads + Sync>(
+    rt: &R,
+    alloc: Global,
+    workers: u32,
+) -> Result<bool, AllocError>
+    requires { (1 ≤ workers) × (workers ≤ 16) }
+{
+    let later = Bench { position: 100 };
+    let jobs = [work(20_000, 9), work(20_000, 10)];
+    let clock = FixedClock { moment: 5 };
+    let report = run_window(rt, alloc, &later, &jobs, workers, &clock, 10, &OpenGate)?;
+    Ok(report.outcomes.as_slice() == [Outcome::Done(109), Outcome::Done(110)].as_slice())
+}
+
+#[test]
+fn jobs_that_were_cut_are_done_at_a_later_position(rt: HostRuntime) -> Result<(), Fail> {
+    assert!(rt; are_done_later(&rt, rt.alloc(), 4)?);
+    assert!(rt; are_done_later(&rt, rt.alloc(), 1)?);
+    Ok(())
+}
+
 #[test]
 fn four_readers_have_four_jobs_at_once(rt: HostRuntime) -> Result<(), Fail> {
     let jobs = [
@@ -102,7 +127,7 @@ fn four_readers_have_four_jobs_at_once(rt: HostRuntime) -> Result<(), Fail> {
         work(20_000, 10),
     ];
     let gate = Turnstile::new(2);
-    let report = run_window(&rt, rt.alloc(), &Bench, &jobs, 4, &gate, 10, &gate)?;
+    let report = run_window(&rt, rt.alloc(), &FIRST, &jobs, 4, &gate, 10, &gate)?;
     assert!(rt; !gate.has_failed());
     assert!(rt;
         report.outcomes.as_slice()

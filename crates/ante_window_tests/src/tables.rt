@@ -1,7 +1,7 @@
 //! Windows over clocks that come to the deadline at each reading.
 ghost use Rattle.std.specs.Prelude.{◌≤◌};
 
-use crate::jobs::{Bench, Work};
+use crate::jobs::{FIRST, Work};
 use ante_base::{CountClock, OpenGate};
 use ante_window::{NOBODY, Outcome, WindowEvent, WindowReport, run_window};
 use std::alloc::{AllocError, Global};
@@ -63,7 +63,7 @@ fn window<R: Threads + Sync>(
     }
     let clock = CountClock::new(0, 1);
     let report = run_window(
-        rt, alloc, &Bench, &jobs, workers, &clock, deadline, &OpenGate,
+        rt, alloc, &FIRST, &jobs, workers, &clock, deadline, &OpenGate,
     )?;
     Ok(is_sound(&report, deadline, workers))
 }
