@@ -7,4 +7,4 @@ mod ranges;
 
 pub use numbers::{arg, arg32, name_arg, signed_arg};
 pub use paying::pay;
-pub use ranges::{bytes_from, bytes_in, put, range};
+pub use ranges::{bytes_from, bytes_in, first, put, range};

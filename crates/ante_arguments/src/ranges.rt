@@ -1,5 +1,5 @@
 // Ranges of the memory.
-ghost use Rattle.std.specs.Prelude.{◌≡◌, ◌<◌, length, true, is_some, IfSome};
+ghost use Rattle.std.specs.Prelude.{◌≡◌, ◌+◌, ◌<◌, length, take, true, is_some, IfSome};
 ghost use Rattle.std.specs.Option.{option_map};
 ghost use Rattle.ante_calls.specs.Calls as calls;
 ghost use Rattle.ante_wmem.specs.Linear.{is_inside, written};
@@ -19,7 +19,8 @@ pub fn bytes_in(memory: &Memory, at: u32, count: u32) -> Option<&[u8]>
 /// The bytes of the range that two arguments name, an address and a count.
 pub fn range<'a>(args: &[u64], at: usize, memory: &'a Memory) -> Option<&'a [u8]>
     requires at { at < 1000 }
-    ensures { option_map (λ b. b.now) result ≡ calls.range at args.now memory.now }
+    ensures bytes { option_map (λ b. b.now) result ≡ calls.range at args.now memory.now }
+    ensures inside { is_some result ≡ is_inside memory.now.bytes (calls.arg32 args.now at) (calls.arg32 args.now (at + 1)) }
 {
     bytes_in(memory, arg32(args, at), arg32(args, at + 1))
 }
@@ -31,6 +32,16 @@ pub fn bytes_from<'a>(args: &[u64], at: usize, count: u32, memory: &'a Memory) -
     ensures count { IfSome result (λ b. length b.now ≡ count) }
 {
     bytes_in(memory, arg32(args, at), count)
+}
+
+/// At most so many of the first bytes.
+pub fn first(bytes: &[u8], most: usize) -> &[u8]
+    ensures { result.now ≡ take most bytes.now }
+{
+    match bytes.split_at_checked(most) {
+        Some((front, _)) => front,
+        None => bytes,
+    }
 }
 
 /// Puts the bytes into a range that lies in the memory.

@@ -82,6 +82,7 @@ impl<M: BlockMachine> Chain<M> {
         })
     }
 
+    /// The engine, at the head.
     pub fn machine(&self) -> &M
         ensures stack { M.stack result.now ≡ self.now.stack }
         ensures chain { M.chain_id result.now ≡ self.now.chain }
@@ -90,6 +91,7 @@ impl<M: BlockMachine> Chain<M> {
         &self.machine
     }
 
+    /// The head's number and id.
     pub fn head(&self) -> Head
         ensures { result ≡ head_at self.now.choice.tree }
     {
@@ -105,6 +107,7 @@ impl<M: BlockMachine> Chain<M> {
         self.applied.as_slice()
     }
 
+    /// The number below which no block of the head's branch is taken back.
     pub fn irreversible(&self) -> u32
         ensures { result ≡ self.now.choice.tree.irreversible }
     {

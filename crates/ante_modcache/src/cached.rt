@@ -67,6 +67,7 @@ impl Cached {
         &self.module
     }
 
+    /// The module alone.
     pub fn into_module(self) -> ValidModule
         ensures { result ≡ self.1 }
     {

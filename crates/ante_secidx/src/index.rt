@@ -19,6 +19,7 @@ use std::marker::{Model, PhantomData};
 // The secondary key under which to look for a row, by its table and primary key, and the rows in their order.
 pub(crate) type Parts<K> = Both<Layered<RowKey, K>, Layered<IndexKey<K>, Name>>;
 
+/// What holds of the rows of an index and of what tells where to look.
 pub struct IndexRule;
 
 impl<K: SecKey> Rule<Parts<K>> for IndexRule {

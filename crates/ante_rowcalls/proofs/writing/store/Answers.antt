@@ -12,5 +12,5 @@ returns-clause-answer g c =
     paid_shown (range 4 c.args.args.now c.args.memory.now) c.in-Some.bytes.now c.args.left.now c.pay.new.left
     (λ bytes. stored_with c.args.run.now c.args.args.now bytes c.args.memory.now v) c.store_bytes.result v
     (view_of (g.T.Tables.stack c.store_bytes.new.tables) c.store_bytes.new.iters) c.args.memory.now
-    (sym c.range.ensures ∙ ap (option_map (λ b. b.now)) c.in-Some.is) c.if-not-pay.ensures.paid c.if-not-pay.ensures.left
+    (sym c.range.ensures.bytes ∙ ap (option_map (λ b. b.now)) c.in-Some.is) c.if-not-pay.ensures.paid c.if-not-pay.ensures.left
     (c.store_bytes.ensures.answer c.args.memory.now c.pay.new.left)
