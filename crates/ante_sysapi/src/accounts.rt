@@ -6,8 +6,8 @@ ghost use Rattle.ante_calls.specs.Authorization as auth;
 ghost use Rattle.ante_sysapi.specs.Answers.{Answers, view};
 ghost use Rattle.ante_wmem.specs.Linear.{LinearMemory};
 
-use crate::arguments::name_arg;
 use crate::authorization::yes_or_no;
+use ante_arguments::name_arg;
 use ante_pack::Name;
 use ante_store::Tables;
 use ante_types::{Failure, RunContext};

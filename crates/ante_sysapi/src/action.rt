@@ -8,7 +8,7 @@ ghost use Rattle.ante_calls.specs.Calls.{long, replies};
 ghost use Rattle.ante_wmem.specs.HostCalls.{value};
 ghost use Rattle.ante_wmem.specs.Linear.{LinearMemory};
 
-use crate::arguments::{arg32, pay, put, range};
+use ante_arguments::{arg32, pay, put, range};
 use ante_pack::Bytes;
 use ante_types::{Failure, RunContext, read_trx};
 use ante_wmem::{HostAnswer, Memory};

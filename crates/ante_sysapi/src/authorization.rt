@@ -7,7 +7,7 @@ ghost use Rattle.ante_sysapi.specs.Answers.{Says, Tells};
 ghost use Rattle.ante_wmem.specs.HostCalls.{value};
 ghost use Rattle.ante_wmem.specs.Linear.{LinearMemory};
 
-use crate::arguments::name_arg;
+use ante_arguments::name_arg;
 use ante_pack::{Level, Name};
 use ante_types::{Action, Failure, RunContext};
 use ante_wmem::HostAnswer;

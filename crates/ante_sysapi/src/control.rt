@@ -4,7 +4,7 @@ ghost use Rattle.ante_calls.specs.Control as control;
 ghost use Rattle.ante_sysapi.specs.Answers.{Tells};
 ghost use Rattle.ante_wmem.specs.Linear.{LinearMemory};
 
-use crate::arguments::{arg, arg32, first, pay, range};
+use ante_arguments::{arg, arg32, first, pay, range};
 use ante_pack::Bytes;
 use ante_types::Failure;
 use ante_wmem::{HostAnswer, Memory};

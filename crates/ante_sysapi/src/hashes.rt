@@ -4,7 +4,7 @@ ghost use Rattle.ante_calls.specs.Hashes as hashes;
 ghost use Rattle.ante_sysapi.specs.Answers.{Tells};
 ghost use Rattle.sha2.specs.Sha256.{sha256};
 
-use crate::arguments::{arg32, bytes_from, pay, put, range};
+use ante_arguments::{arg32, bytes_from, pay, put, range};
 use ante_pack::Bytes;
 use ante_types::Failure;
 use ante_wmem::{HostAnswer, Memory};

@@ -3,7 +3,6 @@
 
 mod accounts;
 mod action;
-mod arguments;
 mod authorization;
 mod call;
 mod control;

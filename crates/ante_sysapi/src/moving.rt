@@ -7,7 +7,7 @@ ghost use Rattle.ante_calls.specs.MemoryCalls as memory_calls;
 ghost use Rattle.ante_sysapi.specs.Answers.{Tells};
 ghost use Rattle.ante_wmem.specs.Linear.{is_inside, bytes_at, written};
 
-use crate::arguments::{arg32, bytes_from, pay, put};
+use ante_arguments::{arg32, bytes_from, pay, put};
 use ante_types::Failure;
 use ante_wmem::{HostAnswer, Memory};
 use std::alloc::{AllocError, Global};
