@@ -6,11 +6,14 @@ use Rattle.sha2.specs.Sha256.{sha256}
 use Rattle.ante_undo.specs.Entries.{changed}
 use Rattle.ante_pack.specs.declared.names.Name.{Name}
 use Rattle.ante_pack.specs.declared.names.TableKey.{TableKey}
+use Rattle.ante_pack.specs.declared.names.Key256.{Key256}
 use Rattle.ante_pack.specs.declared.authority.Level.{Level}
+use Rattle.ante_pack.specs.Packed.{u64}
 use Rattle.ante_state.specs.Orders.{name_order}
 use Rattle.ante_state.specs.declared.tables.RowKey.{RowKey}
 use Rattle.ante_state.specs.declared.tables.TableRow.{TableRow}
 use Rattle.ante_state.specs.declared.tables.PrimaryRow.{PrimaryRow}
+use Rattle.ante_state.specs.declared.tables.IndexKey.{IndexKey}
 use Rattle.ante_state.specs.declared.objects.AccountRow.{AccountRow}
 use Rattle.ante_state.specs.declared.objects.PermissionRow.{PermissionRow}
 use Rattle.ante_state.specs.declared.objects.LinkKey.{LinkKey}
@@ -20,8 +23,10 @@ use Rattle.ante_ram.specs.declared.parts.Share.{Share}
 use Rattle.ante_ram.specs.Usage.{entry_of}
 use Rattle.ante_objects.specs.declared.objects.ObjectsMap.{ObjectsMap}
 use Rattle.ante_rows.specs.declared.rows.RowsMap.{RowsMap}
+use Rattle.ante_secidx.specs.declared.indexes.IndexesMap.{IndexesMap}
 use Rattle.ante_digest.specs.Entries.{counted, packed_account, packed_permission, packed_link, packed_share}
 use Rattle.ante_digest.specs.Entries.{packed_recent, packed_reference, packed_table, packed_row}
+use Rattle.ante_digest.specs.Entries.{packed_index_row, packed_key128, packed_key256}
 
 -- what an account may use: -1, which is no quota, where it has no entry
 abbrev pub quota : World → Name → ℤ
@@ -46,23 +51,33 @@ pub record Lists : Type 0 where
   pub references : List (ℕ × List ℕ)
   pub tables : List (TableKey × TableRow)
   pub rows : List (RowKey × PrimaryRow)
+  pub index64 : List (IndexKey ℕ × Name)
+  pub index128 : List (IndexKey ℕ × Name)
+  pub index256 : List (IndexKey Key256 × Name)
 
 -- the first four lists, of who is there and what they use
 abbrev pub packed_holders : List (Name × AccountRow) → List (Level × PermissionRow) → List (LinkKey × Name) → List (Name × Share) → List ℕ
 packed_holders accounts permissions links usage =
     counted packed_account accounts ++ counted packed_permission permissions ++ counted packed_link links ++ counted packed_share usage
 
--- and the others, of what has been and what contracts keep. The last three are the rows of the secondary indexes, of which there are none
+-- the next four, of what has been and what contracts keep
 abbrev pub packed_history : List (RecentKey × Unit {0}) → List (ℕ × List ℕ) → List (TableKey × TableRow) → List (RowKey × PrimaryRow) → List ℕ
 packed_history recent references tables rows =
-    counted packed_recent recent ++ counted packed_reference references ++ counted packed_table tables ++ counted packed_row rows ++ 0 ∷ 0 ∷ 0 ∷ []
+    counted packed_recent recent ++ counted packed_reference references ++ counted packed_table tables ++ counted packed_row rows
+
+-- and the last three, of the rows of secondary indexes
+abbrev pub packed_indexes : List (IndexKey ℕ × Name) → List (IndexKey ℕ × Name) → List (IndexKey Key256 × Name) → List ℕ
+packed_indexes index64 index128 index256 =
+    counted (packed_index_row u64.spell) index64 ++ counted (packed_index_row packed_key128) index128 ++ counted (packed_index_row packed_key256) index256
 
 abbrev pub packed_lists : Lists → List ℕ
-packed_lists s = packed_holders s.accounts s.permissions s.links s.usage ++ packed_history s.recent s.references s.tables s.rows
+packed_lists s =
+    packed_holders s.accounts s.permissions s.links s.usage ++ packed_history s.recent s.references s.tables s.rows
+    ++ packed_indexes s.index64 s.index128 s.index256
 
 -- the lists of the parts that a state is kept in
-abbrev pub lists_in : ObjectsMap → List (Name × Share) → RowsMap → Lists
-lists_in objects usage rows = record {
+abbrev pub lists_in : ObjectsMap → List (Name × Share) → RowsMap → IndexesMap → Lists
+lists_in objects usage rows indexes = record {
   accounts = objects.accounts;
   permissions = objects.permissions;
   links = objects.links;
@@ -71,6 +86,9 @@ lists_in objects usage rows = record {
   references = objects.references;
   tables = rows.tables;
   rows = rows.rows;
+  index64 = indexes.index64;
+  index128 = indexes.index128;
+  index256 = indexes.index256;
 }
 
 abbrev pub lists_of : World → Lists
@@ -83,6 +101,9 @@ lists_of w = record {
   references = w.references;
   tables = w.tables;
   rows = w.rows;
+  index64 = w.index64;
+  index128 = w.index128;
+  index256 = w.index256;
 }
 
 unfoldable pub state_digest : World → List ℕ

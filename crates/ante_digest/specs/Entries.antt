@@ -1,9 +1,10 @@
 -- How the entries of the state are packed in its digest, each key first, field by field.
 use Rattle.std.specs.Prelude.{ℕ, ◌%◌, ◌^◌, Bool, List, ◌++◌, length, if◌then◌else◌}
-use Rattle.std.specs.Int.{w64, cast_unsigned}
+use Rattle.std.specs.Int.{w64, w128, to_le_bytes, cast_unsigned}
 use Rattle.std.specs.List.{flat_map}
 use Rattle.ante_pack.specs.declared.names.Name.{Name}
 use Rattle.ante_pack.specs.declared.names.TableKey.{TableKey}
+use Rattle.ante_pack.specs.declared.names.Key256.{Key256}
 use Rattle.ante_pack.specs.declared.authority.Level.{Level}
 use Rattle.ante_pack.specs.declared.authority.Authority.{Authority}
 use Rattle.ante_pack.specs.Forms.{varuint}
@@ -11,6 +12,7 @@ use Rattle.ante_pack.specs.Packed.{u8, u16, u32, u64, name, digest, level, key_w
 use Rattle.ante_state.specs.declared.tables.RowKey.{RowKey}
 use Rattle.ante_state.specs.declared.tables.TableRow.{TableRow}
 use Rattle.ante_state.specs.declared.tables.PrimaryRow.{PrimaryRow}
+use Rattle.ante_state.specs.declared.tables.IndexKey.{IndexKey}
 use Rattle.ante_state.specs.declared.objects.AccountRow.{AccountRow}
 use Rattle.ante_state.specs.declared.objects.PermissionRow.{PermissionRow}
 use Rattle.ante_state.specs.declared.objects.LinkKey.{LinkKey}
@@ -59,3 +61,14 @@ packed_table e = packed_table_key e.0 ++ name.spell e.1.payer ++ u32.spell e.1.c
 
 abbrev pub packed_row : RowKey × PrimaryRow → List ℕ
 packed_row e = packed_table_key e.0.table ++ u64.spell e.0.primary ++ name.spell e.1.payer ++ sized e.1.bytes
+
+-- a row of a secondary index, by how its key is packed
+abbrev pub packed_index_row : {K : Type 0} → (K → List ℕ) → IndexKey K × Name → List ℕ
+packed_index_row packed e = packed_table_key e.0.table ++ packed e.0.key ++ u64.spell e.0.primary ++ name.spell e.1
+
+abbrev pub packed_key128 : ℕ → List ℕ
+packed_key128 key = to_le_bytes w128 key
+
+-- the first word first
+abbrev pub packed_key256 : Key256 → List ℕ
+packed_key256 key = packed_key128 key.first ++ packed_key128 key.second

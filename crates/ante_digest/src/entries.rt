@@ -6,10 +6,14 @@ ghost use Rattle.ante_digest.specs.Entries as entries;
 
 use crate::feeding::{
     Fed, feed_digest, feed_key, feed_name, feed_seq, feed_sized, feed_u8, feed_u16, feed_u32,
-    feed_u64,
+    feed_u64, feed_u128,
 };
-use ante_pack::{Authority, Digest, KeyWeight, Level, LevelWeight, Name, TableKey, WaitWeight};
-use ante_state::{AccountRow, LinkKey, PermissionRow, PrimaryRow, RecentKey, RowKey, TableRow};
+use ante_pack::{
+    Authority, Digest, Key256, KeyWeight, Level, LevelWeight, Name, TableKey, WaitWeight,
+};
+use ante_state::{
+    AccountRow, IndexKey, LinkKey, PermissionRow, PrimaryRow, RecentKey, RowKey, TableRow,
+};
 use sha2::Sha256;
 
 impl Fed for KeyWeight {
@@ -45,6 +49,38 @@ impl Fed for WaitWeight {
     fn feed(&self, hasher: &mut Sha256) {
         feed_u32(hasher, self.seconds);
         feed_u16(hasher, self.weight);
+    }
+}
+
+impl Fed for u64 {
+    ghost use Rattle.ante_pack.specs.Packed.{u64};
+
+    ghost packed = { u64.spell };
+
+    fn feed(&self, hasher: &mut Sha256) {
+        feed_u64(hasher, *self);
+    }
+}
+
+impl Fed for u128 {
+    ghost use Rattle.ante_digest.specs.Entries.{packed_key128};
+
+    ghost packed = { packed_key128 };
+
+    fn feed(&self, hasher: &mut Sha256) {
+        feed_u128(hasher, *self);
+    }
+}
+
+impl Fed for Key256 {
+    ghost use Rattle.ante_digest.specs.Entries.{packed_key256};
+
+    ghost packed = { packed_key256 };
+
+    #[tactic(auto, using(crate::proofs::Fed::onto))]
+    fn feed(&self, hasher: &mut Sha256) {
+        feed_u128(hasher, self.first);
+        feed_u128(hasher, self.second);
     }
 }
 
@@ -154,4 +190,14 @@ pub(crate) fn feed_row(hasher: &mut Sha256, key: RowKey, row: &PrimaryRow)
     feed_u64(hasher, key.primary);
     feed_name(hasher, row.payer);
     feed_sized(hasher, row.bytes.as_slice());
+}
+
+#[tactic(auto, using(crate::proofs::Fed::onto))]
+pub(crate) fn feed_index_row<K: Fed>(hasher: &mut Sha256, key: &IndexKey<K>, payer: Name)
+    ensures { Feeds hasher.old hasher.new (entries.packed_index_row K.packed (key.now, payer)) }
+{
+    feed_table_key(hasher, key.table);
+    key.key.feed(hasher);
+    feed_u64(hasher, key.primary);
+    feed_name(hasher, payer);
 }

@@ -4,7 +4,7 @@ ghost use Rattle.std.specs.List.{flat_map};
 ghost use Rattle.ante_pack.specs.Forms.{varuint};
 ghost use Rattle.ante_pack.specs.Packed as forms;
 ghost use Rattle.ante_digest.specs.Feeds.{Feeds};
-ghost use Rattle.ante_digest.specs.Entries.{counted, sized};
+ghost use Rattle.ante_digest.specs.Entries.{counted, sized, packed_key128};
 
 use ante_pack::{Name, Seq};
 use sha2::{Digest, Sha256};
@@ -42,6 +42,12 @@ pub(crate) fn feed_u32(hasher: &mut Sha256, value: u32)
 #[tactic(auto, unfolding(ante_pack::specs::Packed::u64))]
 pub(crate) fn feed_u64(hasher: &mut Sha256, value: u64)
     ensures { Feeds hasher.old hasher.new (forms.u64.spell value) }
+{
+    feed_raw(hasher, &value.to_le_bytes());
+}
+
+pub(crate) fn feed_u128(hasher: &mut Sha256, value: u128)
+    ensures { Feeds hasher.old hasher.new (packed_key128 value) }
 {
     feed_raw(hasher, &value.to_le_bytes());
 }

@@ -1,4 +1,4 @@
-// The eight kinds of entries that the digest lists.
+// The kinds of entries that the digest lists.
 ghost use Rattle.std.specs.Prelude.{◌≡◌, Some, None};
 ghost use Rattle.std.specs.Option.{option_map};
 ghost use Rattle.ante_objects.specs.Objects.{link_key, recent_key};
@@ -6,15 +6,19 @@ ghost use Rattle.ante_digest.specs.Entries.{packed_account, packed_permission, p
 ghost use Rattle.ante_digest.specs.Entries.{packed_recent, packed_reference, packed_table, packed_row};
 
 use crate::entries::{
-    feed_account, feed_link, feed_permission, feed_recent, feed_reference, feed_row, feed_share,
-    feed_table,
+    feed_account, feed_index_row, feed_link, feed_permission, feed_recent, feed_reference,
+    feed_row, feed_share, feed_table,
 };
+use crate::feeding::Fed;
 use crate::listed::Listed;
 use ante_objects::Objects;
 use ante_pack::{Digest, Level, Name, TableKey};
 use ante_ram::{Share, Usage};
 use ante_rows::Rows;
-use ante_state::{AccountRow, LinkKey, PermissionRow, PrimaryRow, RecentKey, RowKey, TableRow};
+use ante_secidx::{SecIndex, SecKey};
+use ante_state::{
+    AccountRow, IndexKey, LinkKey, PermissionRow, PrimaryRow, RecentKey, RowKey, TableRow,
+};
 use sha2::Sha256;
 
 #[derive(Clone, Copy)]
@@ -292,6 +296,38 @@ impl<'a> Listed for AllRows<'a> {
         match self.0.next_row(*after) {
             Some((key, row)) => {
                 feed_row(hasher, key, row);
+                Some(key)
+            }
+            None => None,
+        }
+    }
+}
+
+#[derive(Clone, Copy)]
+pub(crate) struct IndexRows<'a, K: SecKey>(pub &'a SecIndex<K>);
+
+impl<'a, K: SecKey + Fed> Listed for IndexRows<'a, K> {
+    ghost use Rattle.ante_digest.specs.Entries.{packed_index_row};
+
+    type Key = IndexKey<K>;
+
+    type Value = Name;
+
+    ghost entries = { λ s. s.0.now.top };
+
+    ghost packed = { packed_index_row K.packed };
+
+    fn next_key(&self, after: &Option<IndexKey<K>>) -> Option<IndexKey<K>> {
+        match self.0.next_row(*after) {
+            Some((key, _)) => Some(key),
+            None => None,
+        }
+    }
+
+    fn feed_next(&self, after: &Option<IndexKey<K>>, hasher: &mut Sha256) -> Option<IndexKey<K>> {
+        match self.0.next_row(*after) {
+            Some((key, payer)) => {
+                feed_index_row(hasher, &key, payer);
                 Some(key)
             }
             None => None,

@@ -9,9 +9,9 @@ use Rattle.ante_undo.specs.Entries.{entry_from, entry_after, entry_up_to, last_e
 use Rattle.ante_undo.proofs.Entries.{first, second}
 use Rattle.ante_pack.specs.declared.names.Name.{Name}
 use Rattle.ante_pack.specs.declared.names.TableKey.{TableKey}
-use Rattle.ante_state.specs.Orders.{table_order}
+use Rattle.ante_state.specs.Orders.{table_order, pair_order}
 use Rattle.ante_secidx.specs.Keys.{greatest_64}
-use Rattle.ante_secidx.specs.Index.{Rows, index_of, pair_order, lower_bound, upper_bound, exact_match, only_at}
+use Rattle.ante_secidx.specs.Index.{Rows, index_of, lower_bound, upper_bound, exact_match, only_at}
 use Rattle.ante_secidx.proofs.Neighbours.{above_stays}
 
 not_below : (n : ℕ) → is_ge (nat_cmp n 0) ≡ true

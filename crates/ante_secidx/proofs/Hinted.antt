@@ -14,10 +14,10 @@ use Rattle.ante_sessions.specs.Zipped.{zip_stacks}
 use Rattle.ante_sessions.proofs.Seen.{kept_top}
 use Rattle.ante_pack.specs.declared.names.Name.{Name}
 use Rattle.ante_pack.specs.declared.names.TableKey.{TableKey}
-use Rattle.ante_state.specs.Orders.{row_order}
+use Rattle.ante_state.specs.Orders.{row_order, index_order}
 use Rattle.ante_state.specs.declared.tables.RowKey.{RowKey}
-use Rattle.ante_secidx.specs.declared.keys.IndexKey.{IndexKey}
-use Rattle.ante_secidx.specs.Index.{Rows, index_key, row_key, index_row, index_order, without, without_index_row}
+use Rattle.ante_state.specs.declared.tables.IndexKey.{IndexKey}
+use Rattle.ante_secidx.specs.Index.{Rows, index_key, row_key, index_row, without, without_index_row}
 use Rattle.ante_secidx.specs.Hints.{FitsAt, IsHinted, AreHinted, Tells}
 
 some_none : {X : Type 0} (x : X) → Some x ≡ None → ⊥
@@ -116,6 +116,14 @@ module _ {K : Type 0} (fits : K → Type 0) (exact : IsAntisymmetric row_order) 
             ap (λ o. is_some (index_row t p (without keys o m))) e1
             ∙ ap (λ (r : RowKey). is_some (index_row r.table r.primary (without_key (index_order keys) e.0 m))) (sym row)
             ∙ gone e.0 found.0.1 m all
+
+    -- and so there is one at most
+    pub single : (t : TableKey) (p : ℕ) (m : Rows K) → AllByRecursion (λ e. IsHinted fits hints e.0) m → is_some (index_row t p (without_index_row keys t p m)) ≡ false
+    single t p m all = from (index_row t p m) refl
+      where
+        from : (o : Option (IndexKey K × Name)) → index_row t p m ≡ o → is_some (index_row t p (without_index_row keys t p m)) ≡ false
+        from None e = ap (λ o. is_some (index_row t p (without keys o m))) e ∙ ap is_some e
+        from (Some found) e = taken_free t p found.0 m all (ap (option_map (λ e. e.0)) e)
 
     -- what is told of a row, if something is
     pub tells : (rows : IsTotalOrder row_order) (places : IsAntisymmetric (index_order keys)) (t : TableKey) (p : ℕ) (m : Rows K) (key : Option K) → AllByRecursion (λ e. IsHinted fits hints e.0) m → key ≡ find row_order (record { table = t; primary = p }) hints → Tells keys t p m key

@@ -8,9 +8,9 @@ use Rattle.ante_undo.specs.Entries.{first_where, last_where}
 use Rattle.ante_undo.proofs.Entries.{both, first, second}
 use Rattle.ante_pack.specs.declared.names.Name.{Name}
 use Rattle.ante_pack.specs.declared.names.TableKey.{TableKey}
-use Rattle.ante_state.specs.Orders.{table_order}
-use Rattle.ante_secidx.specs.declared.keys.IndexKey.{IndexKey}
-use Rattle.ante_secidx.specs.Index.{Rows, index_key, index_of, in_table, pair_order, index_order}
+use Rattle.ante_state.specs.Orders.{table_order, pair_order, index_order}
+use Rattle.ante_state.specs.declared.tables.IndexKey.{IndexKey}
+use Rattle.ante_secidx.specs.Index.{Rows, index_key, index_of, in_table}
 
 pub is_true : (b : Bool) → T b → b ≡ true
 is_true true h = refl

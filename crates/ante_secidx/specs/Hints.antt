@@ -4,11 +4,11 @@ use Rattle.std.specs.declared.cmp.Ordering.{Ordering}
 use Rattle.std.specs.List.{AllByRecursion}
 use Rattle.std.specs.FinMap.Entries.{find, is_sorted}
 use Rattle.ante_pack.specs.declared.names.TableKey.{TableKey}
-use Rattle.ante_state.specs.Orders.{row_order}
+use Rattle.ante_state.specs.Orders.{row_order, index_order}
 use Rattle.ante_state.specs.declared.tables.RowKey.{RowKey}
-use Rattle.ante_secidx.specs.declared.keys.IndexKey.{IndexKey}
+use Rattle.ante_state.specs.declared.tables.IndexKey.{IndexKey}
 use Rattle.ante_secidx.specs.Keys.{greatest_64}
-use Rattle.ante_secidx.specs.Index.{Rows, row_key, index_row, index_order, row_under}
+use Rattle.ante_secidx.specs.Index.{Rows, row_key, index_row, row_under}
 
 module _ {K : Type 0} (fits : K → Type 0) where
   -- the row's keys are within their bits

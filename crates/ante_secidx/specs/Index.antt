@@ -2,15 +2,15 @@
 -- neighbours are places.
 use Rattle.std.specs.Prelude.{ℕ, List, [], ◌∷◌, Option, Some, None, if◌then◌else◌}
 use Rattle.std.specs.declared.cmp.Ordering.{Ordering}
-use Rattle.std.specs.Ordering.{nat_cmp, ordering_then, is_ge, is_gt, is_eq, eq_by_cmp}
+use Rattle.std.specs.Ordering.{is_ge, is_gt, is_eq, eq_by_cmp}
 use Rattle.std.specs.Option.{option_map}
 use Rattle.std.specs.FinMap.Entries.{find}
 use Rattle.ante_undo.specs.Entries.{changed, first_where}
 use Rattle.ante_pack.specs.declared.names.Name.{Name}
 use Rattle.ante_pack.specs.declared.names.TableKey.{TableKey}
-use Rattle.ante_state.specs.Orders.{table_order, row_order}
+use Rattle.ante_state.specs.Orders.{table_order, row_order, index_order}
 use Rattle.ante_state.specs.declared.tables.RowKey.{RowKey}
-use Rattle.ante_secidx.specs.declared.keys.IndexKey.{IndexKey}
+use Rattle.ante_state.specs.declared.tables.IndexKey.{IndexKey}
 
 -- the rows of all tables in their order, each with who pays for it
 abbrev pub Rows : Type 0 → Type 0
@@ -58,14 +58,6 @@ module _ {K : Type 0} where
   listed_key e = (e.0.0, e.1)
 
 module _ {K : Type 0} (keys : K → K → Ordering) where
-  -- by secondary key, then by primary key
-  abbrev pub pair_order : K × ℕ → K × ℕ → Ordering
-  pair_order a b = ordering_then (keys a.0 b.0) (nat_cmp a.1 b.1)
-
-  -- by table, then by secondary key, then by primary key
-  abbrev pub index_order : IndexKey K → IndexKey K → Ordering
-  index_order a b = ordering_then (table_order a.table b.table) (ordering_then (keys a.key b.key) (nat_cmp a.primary b.primary))
-
   -- the first of a table's rows whose secondary key is at least the key, is above it, or is the key
   abbrev pub lower_bound : K → List ((K × ℕ) × Name) → Option ((K × ℕ) × Name)
   lower_bound key = first_where (λ pair. is_ge (keys pair.0 key))
@@ -83,11 +75,11 @@ module _ {K : Type 0} (keys : K → K → Ordering) where
 
   -- the rows with one put in
   abbrev pub with_index_row : TableKey → K → ℕ → Name → Rows K → Rows K
-  with_index_row table key primary payer m = changed index_order m (index_key table key primary) (Some payer)
+  with_index_row table key primary payer m = changed (index_order keys) m (index_key table key primary) (Some payer)
 
   abbrev pub without : Option (IndexKey K × Name) → Rows K → Rows K
   without None m = m
-  without (Some e) m = changed index_order m e.0 None
+  without (Some e) m = changed (index_order keys) m e.0 None
 
   -- the rows without the table's row with the primary key
   abbrev pub without_index_row : TableKey → ℕ → Rows K → Rows K
@@ -100,4 +92,4 @@ module _ {K : Type 0} (keys : K → K → Ordering) where
   -- the row under the secondary key, if it is there
   abbrev pub row_under : TableKey → K → ℕ → Rows K → Option (IndexKey K × Name)
   row_under table key primary m =
-      option_map (λ payer. (index_key table key primary, payer)) (find index_order (index_key table key primary) m)
+      option_map (λ payer. (index_key table key primary, payer)) (find (index_order keys) (index_key table key primary) m)

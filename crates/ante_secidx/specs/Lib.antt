@@ -4,3 +4,4 @@ pub mod Keys
 pub mod Index
 pub mod Faults
 pub mod Hints
+pub mod Widths

@@ -3,18 +3,18 @@ ghost use Rattle.std.specs.Prelude.{◌<◌, length, ◌≡◌, Some, None, Err,
 ghost use Rattle.std.specs.Option.{option_map};
 ghost use Rattle.ante_undo.specs.Stack.{with_top, IsAbove};
 ghost use Rattle.ante_undo.specs.Entries.{changed};
-ghost use Rattle.ante_state.specs.Orders.{row_order};
-ghost use Rattle.ante_secidx.specs.Index.{index_key, index_row, index_order, row_key, with_index_row, without_index_row, moved};
+ghost use Rattle.ante_state.specs.Orders.{row_order, index_order};
+ghost use Rattle.ante_secidx.specs.Index.{index_key, index_row, row_key, with_index_row, without_index_row, moved};
 ghost use Rattle.ante_secidx.specs.Faults.{IsInsertFault, IsChangeFault};
 ghost use Rattle.ante_secidx.specs.declared.fault.SecFault.TheVariants.{Missing};
 
 use crate::fault::SecFault;
 use crate::index::{Parts, SecIndex};
-use crate::keys::{IndexKey, SecKey};
+use crate::keys::SecKey;
 use crate::laws::orders_hold;
 use ante_pack::{Name, TableKey};
 use ante_sessions::{Sessions, set_entry};
-use ante_state::RowKey;
+use ante_state::{IndexKey, RowKey};
 use std::alloc::{AllocError, Global};
 
 /// No session begins after it.

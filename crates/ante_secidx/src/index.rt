@@ -1,17 +1,19 @@
-ghost use Rattle.std.specs.Prelude.{◌≡◌, [], ◌<◌, ◌≤◌, ◌^◌, IsTrue};
+ghost use Rattle.std.specs.Prelude.{◌≡◌, ℕ, [], ◌<◌, ◌≤◌, ◌^◌, IsNone, IsTrue};
+ghost use Rattle.ante_pack.specs.declared.names.TableKey.{TableKey};
 ghost use Rattle.std.specs.Option.{option_map};
 ghost use Rattle.std.specs.List.{AllByRecursion};
 ghost use Rattle.std.specs.FinMap.Entries.{is_sorted};
 ghost use Rattle.ante_undo.specs.Stack.{opened};
 ghost use Rattle.ante_secidx.specs.Keys.{greatest_64};
-ghost use Rattle.ante_secidx.specs.Index.{index_row, index_order};
+ghost use Rattle.ante_secidx.specs.Index.{index_row, without_index_row};
+ghost use Rattle.ante_state.specs.Orders.{index_order};
 ghost use Rattle.ante_secidx.specs.Hints.{AreHinted, FitsAt, Tells};
 
-use crate::keys::{IndexKey, SecKey};
+use crate::keys::SecKey;
 use crate::laws::orders_hold;
 use ante_pack::{Name, TableKey};
 use ante_sessions::{Both, Entries, Kept, Rule, Sessions};
-use ante_state::RowKey;
+use ante_state::{IndexKey, RowKey};
 use ante_undo::Layered;
 use std::alloc::{AllocError, Global};
 use std::marker::{Model, PhantomData};
@@ -40,7 +42,7 @@ impl<K: SecKey> Model for SecIndex<K> {
     ghost use Rattle.std.specs.Prelude.{List};
     ghost use Rattle.ante_pack.specs.declared.names.Name.{Name};
     ghost use Rattle.ante_undo.specs.Stack.{Stack};
-    ghost use Rattle.ante_secidx.specs.declared.keys.IndexKey.{IndexKey};
+    ghost use Rattle.ante_state.specs.declared.tables.IndexKey.{IndexKey};
 
     ghost Value = { Stack (List (IndexKey K × Name)) };
 
@@ -80,6 +82,14 @@ impl<K: SecKey> SecIndex<K> {
         orders_hold::<K>();
         let row = RowKey { table, primary };
         self.kept.inner.first.get(&row).copied()
+    }
+
+    /// A table has one row at most with a primary key. The proof is all that this is for.
+    pub fn rows_are_single(&self)
+        ensures { (table : TableKey) (primary : ℕ) → IsNone (index_row table primary (without_index_row K.cmp table primary self.now.top)) }
+    {
+        orders_hold::<K>();
+        let _rows = &self.kept.inner.second;
     }
 
     // Where the table's row with the primary key stands.

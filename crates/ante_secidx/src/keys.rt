@@ -1,18 +1,10 @@
-// Secondary keys, and where rows stand in the order of an index.
+// What can be a secondary key.
 ghost use Rattle.std.specs.Prelude.{◌≡◌, ℕ, ◌≤◌, false};
 ghost use Rattle.std.specs.Ordering.{is_gt};
 ghost use Rattle.std.specs.FinMap.{IsAntisymmetric};
 ghost use Rattle.ante_secidx.specs.Keys.{greatest_64, greatest_128, IsKey256};
 
-use ante_pack::{Key256, TableKey};
-
-/// Where a row stands in the order of an index: its table first, then its secondary key, and then its primary key.
-#[derive(Clone, Copy, Debug, PartialEq, Eq, PartialOrd, Ord)]
-pub struct IndexKey<K> {
-    pub table: TableKey,
-    pub key: K,
-    pub primary: u64,
-}
+use ante_pack::Key256;
 
 /// What can be a secondary key: numbers of 64 and of 128 bits, and 256-bit keys.
 pub trait SecKey: Ord + Copy {

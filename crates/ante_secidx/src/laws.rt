@@ -3,18 +3,13 @@ ghost use Rattle.std.specs.Prelude.{◌≡◌, ◌==◌, ℕ};
 ghost use Rattle.std.specs.Option.{option_map};
 ghost use Rattle.std.specs.Cmp.{IsTotalOrder};
 ghost use Rattle.std.specs.FinMap.{IsAntisymmetric};
-ghost use Rattle.ante_state.specs.Orders.{row_order};
+ghost use Rattle.ante_state.specs.Orders.{row_order, index_order};
 ghost use Rattle.ante_undo.specs.Entries.{first_where};
 ghost use Rattle.ante_pack.specs.declared.names.TableKey.{TableKey};
-ghost use Rattle.ante_secidx.specs.Index.{Rows, index_of, index_row, index_order, key_and_payer, listed_key};
+ghost use Rattle.ante_secidx.specs.Index.{Rows, index_of, index_row, key_and_payer, listed_key};
 
-use crate::keys::{IndexKey, SecKey};
-use ante_state::{RowKey, total_order};
-
-/// Rows are ordered by table, then by secondary key, then by primary key.
-pub fn index_is_ordered<K: SecKey>()
-    ensures { ⟦<IndexKey<K> as Ord>⟧.cmp ≡ index_order K.cmp }
-{}
+use crate::keys::SecKey;
+use ante_state::{IndexKey, RowKey, total_order};
 
 /// A row found by its primary key among all rows is the one found in its table's list.
 pub fn rows_are_listed<K: SecKey>()

@@ -5,11 +5,15 @@
 mod changes;
 mod fault;
 mod index;
+mod indexes;
 mod keys;
 mod laws;
 mod lookups;
+mod widths;
 
 pub use fault::SecFault;
 pub use index::SecIndex;
-pub use keys::{IndexKey, SecKey};
-pub use laws::{index_is_ordered, rows_are_listed};
+pub use indexes::{Indexes, IndexesMap};
+pub use keys::SecKey;
+pub use laws::rows_are_listed;
+pub use widths::Width;

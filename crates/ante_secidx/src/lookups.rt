@@ -7,15 +7,16 @@ ghost use Rattle.ante_undo.specs.Entries.{first_where, entry_from, entry_after, 
 ghost use Rattle.ante_sessions.specs.Walk.{past};
 ghost use Rattle.ante_secidx.specs.Index as index;
 ghost use Rattle.ante_secidx.specs.Index.{index_of, index_row, key_and_payer, listed_key, pair_of, place_key, shown_row};
-ghost use Rattle.ante_secidx.specs.Index.{pair_order, index_order, row_under};
+ghost use Rattle.ante_secidx.specs.Index.{row_under};
+ghost use Rattle.ante_state.specs.Orders.{pair_order, index_order};
 ghost use Rattle.ante_secidx.specs.Index.{lower_bound, upper_bound, exact_match};
 
 use crate::index::SecIndex;
-use crate::keys::{IndexKey, SecKey};
+use crate::keys::SecKey;
 use crate::laws::rows_are_listed;
 use ante_pack::{Name, TableKey};
 use ante_sessions::next_entry;
-use ante_state::total_order;
+use ante_state::{IndexKey, total_order};
 
 impl<K: SecKey> SecIndex<K> {
     /// The secondary key of the table's row with the primary key, and who pays for the row.
@@ -112,6 +113,18 @@ impl<K: SecKey> SecIndex<K> {
         let rows = self.rows();
         match next_entry(rows, place_of(after)) {
             Some((row, payer)) => Some((row.table, row.key, row.primary, *payer)),
+            None => None,
+        }
+    }
+
+    /// The same with places as they stand in the order.
+    pub fn next_row(&self, after: Option<IndexKey<K>>) -> Option<(IndexKey<K>, Name)>
+        ensures next { result ≡ first_entry (past (index_order K.cmp) after self.now.top) }
+        ensures ordered { IsTrue (is_sorted (index_order K.cmp) self.now.top) }
+    {
+        let rows = self.rows();
+        match next_entry(rows, after) {
+            Some((row, payer)) => Some((*row, *payer)),
             None => None,
         }
     }

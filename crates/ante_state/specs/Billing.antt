@@ -24,6 +24,16 @@ table_size = 112
 abbrev pub row_size : ℕ
 row_size = 112
 
+-- a row of a secondary index, by the bits of its key
+abbrev pub index64_size : ℕ
+index64_size = 128
+
+abbrev pub index128_size : ℕ
+index128_size = 136
+
+abbrev pub index256_size : ℕ
+index256_size = 152
+
 -- the most bytes that all accounts may use together
 abbrev pub most_usage : ℕ
 most_usage = 2 ^ 62

@@ -1,4 +1,5 @@
 -- The order of each kind of key: part by part, the first part first.
+use Rattle.std.specs.Prelude.{ℕ}
 use Rattle.std.specs.declared.cmp.Ordering.{Ordering}
 use Rattle.std.specs.Ordering.{nat_cmp, ordering_then}
 use Rattle.std.specs.Cmp.Lexicographic.{slice_cmp}
@@ -6,6 +7,7 @@ use Rattle.ante_pack.specs.declared.names.Name.{Name}
 use Rattle.ante_pack.specs.declared.names.TableKey.{TableKey}
 use Rattle.ante_pack.specs.declared.authority.Level.{Level}
 use Rattle.ante_state.specs.declared.tables.RowKey.{RowKey}
+use Rattle.ante_state.specs.declared.tables.IndexKey.{IndexKey}
 use Rattle.ante_state.specs.declared.objects.LinkKey.{LinkKey}
 use Rattle.ante_state.specs.declared.objects.RecentKey.{RecentKey}
 
@@ -20,6 +22,15 @@ table_order a b = ordering_then (name_order a.code b.code) (ordering_then (name_
 -- by table, then by primary key
 abbrev pub row_order : RowKey → RowKey → Ordering
 row_order a b = ordering_then (table_order a.table b.table) (nat_cmp a.primary b.primary)
+
+module _ {K : Type 0} (keys : K → K → Ordering) where
+  -- by secondary key, then by primary key
+  abbrev pub pair_order : K × ℕ → K × ℕ → Ordering
+  pair_order a b = ordering_then (keys a.0 b.0) (nat_cmp a.1 b.1)
+
+  -- by table, then by secondary key, then by primary key
+  abbrev pub index_order : IndexKey K → IndexKey K → Ordering
+  index_order a b = ordering_then (table_order a.table b.table) (ordering_then (keys a.key b.key) (nat_cmp a.primary b.primary))
 
 -- by account, then by permission
 abbrev pub level_order : Level → Level → Ordering

@@ -19,6 +19,15 @@ pub const TABLE_SIZE: u128 = 112;
 /// A primary row, beside its bytes.
 pub const ROW_SIZE: u128 = 112;
 
+/// A row of a secondary index of 64 bits.
+pub const INDEX64_SIZE: u128 = 128;
+
+/// A row of a secondary index of 128 bits.
+pub const INDEX128_SIZE: u128 = 136;
+
+/// A row of a secondary index of 256 bits.
+pub const INDEX256_SIZE: u128 = 152;
+
 /// The most bytes that all accounts may use together.
 pub const MOST_USAGE: u64 = 4_611_686_018_427_387_904;
 

@@ -1,10 +1,11 @@
 // What contracts rest on, each as a function with an empty body: its contract is all that it is for.
 ghost use Rattle.std.specs.Prelude.{◌≡◌};
 ghost use Rattle.std.specs.Cmp.{IsTotalOrder};
-ghost use Rattle.ante_state.specs.Orders.{name_order, table_order, row_order, level_order, link_order, recent_order};
+ghost use Rattle.ante_state.specs.Orders.{name_order, table_order, row_order, index_order};
+ghost use Rattle.ante_state.specs.Orders.{level_order, link_order, recent_order};
 
 use crate::objects::{LinkKey, RecentKey};
-use crate::tables::RowKey;
+use crate::tables::{IndexKey, RowKey};
 use ante_pack::{Level, Name, TableKey};
 
 /// Names are ordered as their numbers are.
@@ -20,6 +21,11 @@ pub fn tables_are_ordered()
 /// Rows are ordered by table, and then by primary key.
 pub fn rows_are_ordered()
     ensures { ⟦<RowKey as Ord>⟧.cmp ≡ row_order }
+{}
+
+/// Rows of a secondary index are ordered by table, then by secondary key, then by primary key.
+pub fn index_is_ordered<K: Ord>()
+    ensures { ⟦<IndexKey<K> as Ord>⟧.cmp ≡ index_order K.cmp }
 {}
 
 /// Permissions are ordered by account, and then by name.

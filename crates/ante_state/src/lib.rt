@@ -8,8 +8,8 @@ mod objects;
 mod tables;
 
 pub use laws::{
-    levels_are_ordered, links_are_ordered, names_are_ordered, recent_are_ordered, rows_are_ordered,
-    tables_are_ordered, total_order,
+    index_is_ordered, levels_are_ordered, links_are_ordered, names_are_ordered, recent_are_ordered,
+    rows_are_ordered, tables_are_ordered, total_order,
 };
 pub use objects::{AccountRow, LinkKey, PermissionRow, RecentKey};
-pub use tables::{PrimaryRow, RowKey, TableRow};
+pub use tables::{IndexKey, PrimaryRow, RowKey, TableRow};

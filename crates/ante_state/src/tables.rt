@@ -7,6 +7,14 @@ pub struct RowKey {
     pub primary: u64,
 }
 
+/// Where a row of a secondary index stands: its table first, then its secondary key, and then its primary key.
+#[derive(Clone, Copy, Debug, PartialEq, Eq, PartialOrd, Ord)]
+pub struct IndexKey<K> {
+    pub table: TableKey,
+    pub key: K,
+    pub primary: u64,
+}
+
 /// A table object: who pays for it, and how many rows of all kinds the table has.
 #[derive(Clone, Copy, Debug, PartialEq, Eq)]
 pub struct TableRow {

@@ -8,24 +8,32 @@ use Rattle.ante_undo.specs.Entries.{changed}
 use Rattle.ante_sums.specs.Weights.{weight_at}
 use Rattle.ante_sums.proofs.Changed.{weight_flat, weight_changed, weight_within}
 use Rattle.ante_pack.specs.declared.names.Name.{Name}
-use Rattle.ante_types.specs.World.{World, account_bills, permission_bills, link_bills, table_bills, row_bills, bills}
+use Rattle.ante_state.specs.Billing.{index64_size, index128_size, index256_size}
+use Rattle.ante_types.specs.World.{World, account_bills, permission_bills, link_bills, table_bills, row_bills, index_bills, bills}
 use Rattle.ante_store.specs.Bills.{bills_at}
 
 -- a sum over all bills is one over the bills of each map
 pub weighs : (part : Name × ℕ → ℕ) (w : World) → sum_by part (bills w) ≡
     sum_by part (flat_map account_bills w.accounts) + (sum_by part (flat_map permission_bills w.permissions) + (sum_by part (flat_map link_bills w.links)
-    + (sum_by part (flat_map table_bills w.tables) + sum_by part (flat_map row_bills w.rows))))
+    + (sum_by part (flat_map table_bills w.tables) + (sum_by part (flat_map row_bills w.rows) + (sum_by part (flat_map (index_bills index64_size) w.index64)
+    + (sum_by part (flat_map (index_bills index128_size) w.index128) + sum_by part (flat_map (index_bills index256_size) w.index256)))))))
 weighs part w =
     let accounts = flat_map account_bills w.accounts in
     let permissions = flat_map permission_bills w.permissions in
     let links = flat_map link_bills w.links in
     let tables = flat_map table_bills w.tables in
+    let rows = flat_map row_bills w.rows in
+    let index64 = flat_map (index_bills index64_size) w.index64 in
+    let index128 = flat_map (index_bills index128_size) w.index128 in
     omega (
       arith,
       sum_by-append part accounts permissions,
       sum_by-append part (accounts ++ permissions) links,
       sum_by-append part (accounts ++ permissions ++ links) tables,
-      sum_by-append part (accounts ++ permissions ++ links ++ tables) (flat_map row_bills w.rows),
+      sum_by-append part (accounts ++ permissions ++ links ++ tables) rows,
+      sum_by-append part (accounts ++ permissions ++ links ++ tables ++ rows) index64,
+      sum_by-append part (accounts ++ permissions ++ links ++ tables ++ rows ++ index64) index128,
+      sum_by-append part (accounts ++ permissions ++ links ++ tables ++ rows ++ index64 ++ index128) (flat_map (index_bills index256_size) w.index256),
     )
 
 module _ {K V : Type 0} (cmp : K → K → Ordering) (o : IsTotalOrder cmp) (exact : (a b : K) → cmp a b ≡ Equal → a ≡ b) (of_entry : K × V → List (Name × ℕ)) (part : Name × ℕ → ℕ) where

@@ -22,6 +22,7 @@ use Rattle.ante_store.specs.Applied.{IsMade}
 use Rattle.ante_types.specs.GenesisWorld.{owner, active, no_name, account_of, permission_of, permissions_of, accounts_of, world_with}
 use Rattle.ante_store.specs.Genesis.{joined, Rises, Shows}
 use Rattle.ante_store.specs.declared.parts.Maps.{Maps}
+use Rattle.ante_store.specs.Shown.{no_maps}
 use Rattle.ante_store.specs.Worlds.{world_of, IsBilled}
 use Rattle.ante_store.proofs.KeyOrders.{names_total, levels_total}
 use Rattle.ante_store.proofs.Rebilled.{take_next}
@@ -77,7 +78,7 @@ one_joined accounts a below =
     ∙ put_last level_order levels_total upper.0 upper.1 (before ++ lower ∷ []) (all_append _ before (lower ∷ []) (permissions_below accounts a.name owner below) (between, tt))
     ∙ append_assoc before (lower ∷ []) (upper ∷ [])
     ∙ sym (flat_map-append permissions_of accounts (a ∷ [])) in
-    λ i. record { accounts = names i; permissions = levels i; links = []; quotas = []; recent = []; references = []; tables = []; rows = [] }
+    λ i. record (world_with accounts) { accounts = names i; permissions = levels i }
 
 -- the next account is above those before it
 pub next_above : (accounts : List GenesisAccount) (i : ℕ) (d : GenesisAccount) → i < length accounts → Rises accounts → AreBelow name_order (slice_index_or accounts i d).name (accounts_of (take i accounts))
@@ -96,23 +97,24 @@ next_shown accounts i d m m2 lt rises shows world billed = record {
   billed = billed;
 }
 
-pub empty_shown : Shows [] (record { rows = record { tables = []; rows = [] }; objects = record { accounts = []; permissions = []; links = []; recent = []; references = [] }; usage = [] })
+pub empty_shown : Shows [] no_maps
 empty_shown = record {
   world = refl;
   billed = record {
-    accounts = tt;
-    permissions = tt;
-    links = tt;
-    recent = tt;
-    references = tt;
-    tables = tt;
-    rows = tt;
+    kept = record {
+      objects = record { accounts = tt; permissions = tt; links = tt; recent = tt; references = tt };
+      rows = record {
+        tables = tt;
+        rows = tt;
+        indexes = record { index64 = tt; index128 = tt; index256 = tt };
+        counted = λ table. refl;
+        some = λ table. tt;
+      };
+    };
     shares = tt;
     billed = λ account. refl;
     total = refl;
     small = omega arith;
-    counted = λ table. refl;
-    some = λ table. tt;
   };
 }
 

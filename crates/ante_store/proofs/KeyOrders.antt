@@ -2,12 +2,15 @@
 use Rattle.std.proofs.Common.{◌≡◌, refl, sym, ap, Ordering, Less, Equal, Greater}
 use Rattle.std.specs.Ordering.{ordering_then}
 use Rattle.std.specs.Cmp.{IsTotalOrder, nat_cmp_total, on_total, then_total, ranked}
+use Rattle.std.specs.FinMap.{IsAntisymmetric}
 use Rattle.std.specs.Cmp.Lexicographic.{nat_list_cmp_total}
 use Rattle.ante_pack.specs.declared.names.Name.{Name}
 use Rattle.ante_pack.specs.declared.names.TableKey.{TableKey}
+use Rattle.ante_pack.specs.KeyOrder.{key256_order}
 use Rattle.ante_pack.specs.declared.authority.Level.{Level}
-use Rattle.ante_state.specs.Orders.{name_order, table_order, row_order, level_order, link_order, recent_order}
+use Rattle.ante_state.specs.Orders.{name_order, table_order, row_order, index_order, level_order, link_order, recent_order}
 use Rattle.ante_state.specs.declared.tables.RowKey.{RowKey}
+use Rattle.ante_state.specs.declared.tables.IndexKey.{IndexKey}
 use Rattle.ante_state.specs.declared.objects.LinkKey.{LinkKey}
 
 pub names_total : IsTotalOrder name_order
@@ -18,6 +21,12 @@ tables_total = then_total (on_total (λ t. t.code) names_total) (then_total (on_
 
 pub rows_total : IsTotalOrder row_order
 rows_total = then_total (on_total (λ r. r.table) tables_total) (on_total (λ r. r.primary) nat_cmp_total)
+
+pub key256_total : IsTotalOrder key256_order
+key256_total = then_total (on_total (λ k. k.first) nat_cmp_total) (on_total (λ k. k.second) nat_cmp_total)
+
+pub index_total : {K : Type 0} (keys : K → K → Ordering) → IsTotalOrder keys → IsTotalOrder (index_order keys)
+index_total keys total = then_total (on_total (λ r. r.table) tables_total) (then_total (on_total (λ r. r.key) total) (on_total (λ r. r.primary) nat_cmp_total))
 
 pub levels_total : IsTotalOrder level_order
 levels_total = then_total (on_total (λ l. l.actor) names_total) (on_total (λ l. l.permission) names_total)
@@ -44,6 +53,12 @@ tables_exact a b h =
 
 pub rows_exact : (a b : RowKey) → row_order a b ≡ Equal → a ≡ b
 rows_exact a b h = let p = both_equal _ _ h in λ i. record { table = tables_exact a.table b.table p.0 i; primary = ranked a.primary b.primary Equal (sym p.1) i }
+
+pub index_exact : {K : Type 0} (keys : K → K → Ordering) → IsAntisymmetric keys → (a b : IndexKey K) → index_order keys a b ≡ Equal → a ≡ b
+index_exact keys exact a b h =
+    let p = both_equal _ _ h in
+    let q = both_equal _ _ p.1 in
+    λ i. record { table = tables_exact a.table b.table p.0 i; key = exact a.key b.key q.0 i; primary = ranked a.primary b.primary Equal (sym q.1) i }
 
 pub levels_exact : (a b : Level) → level_order a b ≡ Equal → a ≡ b
 levels_exact a b h = let p = both_equal _ _ h in λ i. record { actor = names_exact a.actor b.actor p.0 i; permission = names_exact a.permission b.permission p.1 i }

@@ -5,10 +5,14 @@ pub mod Billed
 pub mod KeyOrders
 pub mod Made
 pub mod ObjectChanges
+pub mod Counting
 pub mod RowChanges
+pub mod IndexRows
+pub mod IndexChanges
 pub mod QuotaChange
 pub mod Lengths
 pub mod RowsMade
+pub mod IndexesMade
 pub mod Shares
 pub mod Founding
 pub mod Throughout

@@ -1,17 +1,14 @@
 -- A change that moves bills and one map: what follows for the rule, and for its refusal.
-use Rattle.std.proofs.Common.{◌≡◌, ℕ, ◌≤◌, ◌<◌, true, false, cond, ◌||◌, T, List, [], Some, None, IfSome, refl, sym, ap, subst, ◌∙◌, arith}
+use Rattle.std.proofs.Common.{◌≡◌, ℕ, ◌≤◌, ◌<◌, true, false, cond, ◌||◌, T, List, [], Some, None, refl, sym, ap, subst, ◌∙◌, arith}
 use Rattle.std.specs.Prelude.{nat_lt}
-use Rattle.std.specs.Ordering.{nat_cmp}
 use Rattle.std.specs.Option.{option_or}
 use Rattle.std.specs.List.{sum_by}
 use Rattle.std.specs.FinMap.Entries.{find, is_sorted}
 use Rattle.std.proofs.lemmas.Bool.Decides.{nat_tests}
 use Rattle.ante_undo.specs.Stack.{Stack, with_top}
-use Rattle.ante_sums.specs.Weights.{weight_of}
 use Rattle.ante_pack.specs.declared.names.Name.{Name}
-use Rattle.ante_pack.specs.declared.names.TableKey.{TableKey}
 use Rattle.ante_state.specs.Billing.{most_usage}
-use Rattle.ante_state.specs.Orders.{name_order, table_order, row_order, level_order, link_order, recent_order}
+use Rattle.ante_state.specs.Orders.{name_order}
 use Rattle.ante_types.specs.World.{World, bills, paid_by, used_by_all}
 use Rattle.ante_ram.specs.declared.parts.Share.{Share}
 use Rattle.ante_ram.specs.Usage.{used_of, usage_sum}
@@ -19,35 +16,10 @@ use Rattle.ante_store.specs.declared.change.Change.{Change}
 use Rattle.ante_store.specs.declared.change.WriteError.{WriteError}
 use Rattle.ante_store.specs.declared.change.WriteError.TheVariants as error
 use Rattle.ante_store.specs.Bills.{quotas_of, paid, IsRebilled, Rebills}
-use Rattle.ante_store.specs.Changes.{count_of, after, misplaced, is_full, is_too_much, refusal, IsCause}
+use Rattle.ante_store.specs.Changes.{after, misplaced, is_full, is_too_much, refusal, IsCause}
 use Rattle.ante_store.specs.declared.parts.Maps.{Maps}
-use Rattle.ante_store.specs.Worlds.{world_of, of_table, IsBilled}
+use Rattle.ante_store.specs.Worlds.{world_of, IsKept, IsBilled}
 use Rattle.ante_store.specs.Applied.{with_usage, IsMade, IsUnpaid}
-
--- what the rule says of the maps beside usage
-pub record IsKept (x : Maps) : Type 0 where
-  pub accounts : T (is_sorted name_order x.objects.accounts)
-  pub permissions : T (is_sorted level_order x.objects.permissions)
-  pub links : T (is_sorted link_order x.objects.links)
-  pub recent : T (is_sorted recent_order x.objects.recent)
-  pub references : T (is_sorted nat_cmp x.objects.references)
-  pub tables : T (is_sorted table_order x.rows.tables)
-  pub rows : T (is_sorted row_order x.rows.rows)
-  pub counted : (table : TableKey) → weight_of (of_table table) x.rows.rows ≡ count_of (find table_order table x.rows.tables)
-  pub some : (table : TableKey) → IfSome (find table_order table x.rows.tables) (λ t. 0 < t.count)
-
-pub kept_of : (m : Maps) → IsBilled m → IsKept m
-kept_of m is = record {
-  accounts = is.accounts;
-  permissions = is.permissions;
-  links = is.links;
-  recent = is.recent;
-  references = is.references;
-  tables = is.tables;
-  rows = is.rows;
-  counted = is.counted;
-  some = is.some;
-}
 
 -- the maps that a change leads to, beside usage, and the bills that are removed and added
 pub record Leads (c : Change) (removed added : List (Name × ℕ)) (old : Maps) (x : Maps) : Type 0 where
@@ -64,16 +36,7 @@ pub leads_as : (c : Change) (removed added g k : List (Name × ℕ)) (old : Maps
 leads_as c removed added g k old x a b leads = subst (λ removed. Leads c removed added old x) (sym a) (subst (λ added. Leads c g added old x) (sym b) leads)
 
 same_quotas : (x : Maps) (usage : List (Name × Share)) → quotas_of usage ≡ quotas_of x.usage → world_of (with_usage usage x) ≡ world_of x
-same_quotas x usage e = ap (λ quotas. record {
-  accounts = x.objects.accounts;
-  permissions = x.objects.permissions;
-  links = x.objects.links;
-  quotas = quotas;
-  recent = x.objects.recent;
-  references = x.objects.references;
-  tables = x.rows.tables;
-  rows = x.rows.rows;
-}) e
+same_quotas x usage e = ap (λ quotas. record (world_of x) { quotas = quotas }) e
 
 not_over : (a b : ℕ) → a ≤ b → nat_lt b a ≡ false
 not_over a b h = grind (arith, nat_tests)
@@ -108,19 +71,11 @@ made c removed added old x shares is leads rebilled small =
       granted = granted_by c (world_of old) leads.placed leads.room (omega (arith, ap used_by_all world, total, small));
       world = world;
       billed = record {
-        accounts = leads.kept.accounts;
-        permissions = leads.kept.permissions;
-        links = leads.kept.links;
-        recent = leads.kept.recent;
-        references = leads.kept.references;
-        tables = leads.kept.tables;
-        rows = leads.kept.rows;
+        kept = record { objects = leads.kept.objects; rows = leads.kept.rows };
         shares = rebilled.sorted;
         billed = λ account. omega (arith, leads.rebills (paid_by account), rebilled.used account, is.billed account);
         total = total;
         small = small;
-        counted = leads.kept.counted;
-        some = leads.kept.some;
       };
     }
 

@@ -32,18 +32,17 @@ account_leads name row old is =
       room = refl;
       usage = refl;
       world = refl;
-      rebills = λ part. omega (arith, weighs part (world_of old), weighs part (world_of x), entry_rebills name_order names_total names_exact account_bills part old.objects.accounts name (Some row) is.accounts);
+      rebills = λ part. omega (arith, weighs part (world_of old), weighs part (world_of x), entry_rebills name_order names_total names_exact account_bills part old.objects.accounts name (Some row) is.kept.objects.accounts);
       within = λ part. omega (arith, weighs part (world_of old), entry_within name_order names_total names_exact account_bills part old.objects.accounts name);
       kept = record {
-        accounts = sorted_changed name_order names_total old.objects.accounts name (Some row) is.accounts;
-        permissions = is.permissions;
-        links = is.links;
-        recent = is.recent;
-        references = is.references;
-        tables = is.tables;
-        rows = is.rows;
-        counted = is.counted;
-        some = is.some;
+        objects = record {
+          accounts = sorted_changed name_order names_total old.objects.accounts name (Some row) is.kept.objects.accounts;
+          permissions = is.kept.objects.permissions;
+          links = is.kept.objects.links;
+          recent = is.kept.objects.recent;
+          references = is.kept.objects.references;
+        };
+        rows = is.kept.rows;
       };
     }
 
@@ -57,18 +56,17 @@ permission_leads level row old is =
       room = refl;
       usage = refl;
       world = refl;
-      rebills = λ part. omega (arith, weighs part (world_of old), weighs part (world_of x), entry_rebills level_order levels_total levels_exact permission_bills part old.objects.permissions level row is.permissions);
+      rebills = λ part. omega (arith, weighs part (world_of old), weighs part (world_of x), entry_rebills level_order levels_total levels_exact permission_bills part old.objects.permissions level row is.kept.objects.permissions);
       within = λ part. omega (arith, weighs part (world_of old), entry_within level_order levels_total levels_exact permission_bills part old.objects.permissions level);
       kept = record {
-        accounts = is.accounts;
-        permissions = sorted_changed level_order levels_total old.objects.permissions level row is.permissions;
-        links = is.links;
-        recent = is.recent;
-        references = is.references;
-        tables = is.tables;
-        rows = is.rows;
-        counted = is.counted;
-        some = is.some;
+        objects = record {
+          accounts = is.kept.objects.accounts;
+          permissions = sorted_changed level_order levels_total old.objects.permissions level row is.kept.objects.permissions;
+          links = is.kept.objects.links;
+          recent = is.kept.objects.recent;
+          references = is.kept.objects.references;
+        };
+        rows = is.kept.rows;
       };
     }
 
@@ -82,18 +80,17 @@ link_leads key requirement old is =
       room = refl;
       usage = refl;
       world = refl;
-      rebills = λ part. omega (arith, weighs part (world_of old), weighs part (world_of x), entry_rebills link_order links_total links_exact link_bills part old.objects.links key requirement is.links);
+      rebills = λ part. omega (arith, weighs part (world_of old), weighs part (world_of x), entry_rebills link_order links_total links_exact link_bills part old.objects.links key requirement is.kept.objects.links);
       within = λ part. omega (arith, weighs part (world_of old), entry_within link_order links_total links_exact link_bills part old.objects.links key);
       kept = record {
-        accounts = is.accounts;
-        permissions = is.permissions;
-        links = sorted_changed link_order links_total old.objects.links key requirement is.links;
-        recent = is.recent;
-        references = is.references;
-        tables = is.tables;
-        rows = is.rows;
-        counted = is.counted;
-        some = is.some;
+        objects = record {
+          accounts = is.kept.objects.accounts;
+          permissions = is.kept.objects.permissions;
+          links = sorted_changed link_order links_total old.objects.links key requirement is.kept.objects.links;
+          recent = is.kept.objects.recent;
+          references = is.kept.objects.references;
+        };
+        rows = is.kept.rows;
       };
     }
 
@@ -108,15 +105,14 @@ recent_leads expiration id there old is = record {
   rebills = λ part. refl;
   within = λ part. omega arith;
   kept = record {
-    accounts = is.accounts;
-    permissions = is.permissions;
-    links = is.links;
-    recent = sorted_changed recent_order recent_total old.objects.recent (record { expiration = expiration; id = id }) (cond there (Some tt) None) is.recent;
-    references = is.references;
-    tables = is.tables;
-    rows = is.rows;
-    counted = is.counted;
-    some = is.some;
+    objects = record {
+      accounts = is.kept.objects.accounts;
+      permissions = is.kept.objects.permissions;
+      links = is.kept.objects.links;
+      recent = sorted_changed recent_order recent_total old.objects.recent (record { expiration = expiration; id = id }) (cond there (Some tt) None) is.kept.objects.recent;
+      references = is.kept.objects.references;
+    };
+    rows = is.kept.rows;
   };
 }
 
@@ -131,14 +127,13 @@ reference_leads low id old is = record {
   rebills = λ part. refl;
   within = λ part. omega arith;
   kept = record {
-    accounts = is.accounts;
-    permissions = is.permissions;
-    links = is.links;
-    recent = is.recent;
-    references = sorted_changed nat_cmp nat_cmp_total old.objects.references low (Some id) is.references;
-    tables = is.tables;
-    rows = is.rows;
-    counted = is.counted;
-    some = is.some;
+    objects = record {
+      accounts = is.kept.objects.accounts;
+      permissions = is.kept.objects.permissions;
+      links = is.kept.objects.links;
+      recent = is.kept.objects.recent;
+      references = sorted_changed nat_cmp nat_cmp_total old.objects.references low (Some id) is.kept.objects.references;
+    };
+    rows = is.kept.rows;
   };
 }

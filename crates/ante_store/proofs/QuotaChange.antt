@@ -24,18 +24,10 @@ quota_made account quota old is =
       granted = granted_by (change.SetQuota account quota) w refl refl (omega (arith, is.total, is.small));
       world = ap (λ quotas. record w { quotas = quotas }) (quotas_share name_order names_total names_exact account used quota old.usage is.shares);
       billed = record {
-        accounts = is.accounts;
-        permissions = is.permissions;
-        links = is.links;
-        recent = is.recent;
-        references = is.references;
-        tables = is.tables;
-        rows = is.rows;
+        kept = record { objects = is.kept.objects; rows = is.kept.rows };
         shares = sorted_changed name_order names_total old.usage account (entry_of used quota) is.shares;
         billed = λ a. omega (arith, is.billed a, used_stands names_total names_exact account quota old.usage a);
         total = omega (arith, is.total, sum_share name_order names_total account used quota old.usage is.shares);
         small = omega (arith, is.small, sum_share name_order names_total account used quota old.usage is.shares);
-        counted = is.counted;
-        some = is.some;
       };
     }

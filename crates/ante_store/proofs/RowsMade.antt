@@ -23,11 +23,11 @@ use Rattle.ante_store.specs.Applied.{in_rows, with_usage, IsMade}
 use Rattle.ante_store.proofs.Made.{Leads, leads_as, made_then, twice}
 use Rattle.ante_store.proofs.RowChanges.{store_leads, remove_leads}
 
-none_of : {X : Type 0} (o : Option X) → is_some o ≡ false → o ≡ None
+pub none_of : {X : Type 0} (o : Option X) → is_some o ≡ false → o ≡ None
 none_of None h = refl
 none_of (Some x) h = cc
 
-not_full : (n : ℕ) → n < most_rows → nat_le most_rows n ≡ false
+pub not_full : (n : ℕ) → n < most_rows → nat_le most_rows n ≡ false
 not_full n h = grind (arith, nat_tests)
 
 -- the maps after both were written

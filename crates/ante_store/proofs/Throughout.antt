@@ -11,6 +11,7 @@ use Rattle.ante_pack.specs.declared.names.Name.{Name}
 use Rattle.ante_state.specs.Orders.{name_order}
 use Rattle.ante_types.specs.World.{World, used}
 use Rattle.ante_rows.specs.declared.rows.RowsMap.{RowsMap}
+use Rattle.ante_secidx.specs.declared.indexes.IndexesMap.{IndexesMap}
 use Rattle.ante_objects.specs.declared.objects.ObjectsMap.{ObjectsMap}
 use Rattle.ante_ram.specs.declared.parts.Share.{Share}
 use Rattle.ante_ram.specs.Usage.{used_of}
@@ -23,17 +24,20 @@ use Rattle.ante_store.proofs.Quotas.{sorted_quotas}
 
 is_world : (m : Maps) → IsBilled m → IsWorld (world_of m)
 is_world m is = record {
-  accounts = is.accounts;
-  permissions = is.permissions;
-  links = is.links;
+  accounts = is.kept.objects.accounts;
+  permissions = is.kept.objects.permissions;
+  links = is.kept.objects.links;
   quotas = sorted_quotas name_order m.usage is.shares;
-  recent = is.recent;
-  references = is.references;
-  tables = is.tables;
-  rows = is.rows;
+  recent = is.kept.objects.recent;
+  references = is.kept.objects.references;
+  tables = is.kept.rows.tables;
+  rows = is.kept.rows.rows;
+  index64 = is.kept.rows.indexes.index64;
+  index128 = is.kept.rows.indexes.index128;
+  index256 = is.kept.rows.indexes.index256;
   small = omega (arith, is.total, is.small);
-  counted = is.counted;
-  some = is.some;
+  counted = is.kept.rows.counted;
+  some = is.kept.rows.some;
 }
 
 all_worlds : (ms : List Maps) → AllByRecursion IsBilled ms → AllByRecursion IsWorld (map world_of ms)
@@ -64,25 +68,25 @@ all_at P (x ∷ xs) zero d h p = h.0
 all_at P (x ∷ xs) (suc n) d h p = all_at P xs n d h.1 p
 
 -- usage is in the same sessions as the worlds
-pub same_sessions : (a : Stack (RowsMap × ObjectsMap)) (b : Stack (List (Name × Share))) → Alike a b → length b.under ≡ length (later (map_stack world_of (map_stack shown_maps (zip_stacks a b)))).under
+pub same_sessions : (a : Stack ((RowsMap × IndexesMap) × ObjectsMap)) (b : Stack (List (Name × Share))) → Alike a b → length b.under ≡ length (later (map_stack world_of (map_stack shown_maps (zip_stacks a b)))).under
 same_sessions a b h =
     let pairs = (zip_stacks a b).under in
     ap length (sym (seconds-zip a.under b.under (sym h.under))) ∙ length-map pairs (λ m. m.1) ∙ sym (length-map pairs shown_maps) ∙ sym (length-map (map shown_maps pairs) world_of)
 
 -- usage is that of the parts
-usage_under : (a : Stack (RowsMap × ObjectsMap)) (b : Stack (List (Name × Share))) → Alike a b → under_top b ≡ (under_top (map_stack shown_maps (zip_stacks a b))).usage
+usage_under : (a : Stack ((RowsMap × IndexesMap) × ObjectsMap)) (b : Stack (List (Name × Share))) → Alike a b → under_top b ≡ (under_top (map_stack shown_maps (zip_stacks a b))).usage
 usage_under a b h =
     let second : under_top (map_stack (λ m. m.1) (zip_stacks a b)) ≡ under_top b = ap (λ maps. slice_index_or maps (length maps - 1) b.top) (seconds-zip a.under b.under (sym h.under)) in
     sym second ∙ under_seen (λ m. m.1) (zip_stacks a b) ∙ sym (ap (λ m. m.usage) (under_seen shown_maps (zip_stacks a b)))
 
 -- it is what the world is billed, and its quotas are the world's
-pub used_under : (a : Stack (RowsMap × ObjectsMap)) (b : Stack (List (Name × Share))) → Alike a b → Throughout IsBilled (map_stack shown_maps (zip_stacks a b)) →
+pub used_under : (a : Stack ((RowsMap × IndexesMap) × ObjectsMap)) (b : Stack (List (Name × Share))) → Alike a b → Throughout IsBilled (map_stack shown_maps (zip_stacks a b)) →
     (account : Name) → used_of (find name_order account (under_top b)) ≡ used (under_top (later (map_stack world_of (map_stack shown_maps (zip_stacks a b))))) account
 used_under a b h all account =
     let s = map_stack shown_maps (zip_stacks a b) in
     let is = all_at IsBilled s.under (length s.under - 1) s.top all.under all.top in
     ap (λ m. used_of (find name_order account m)) (usage_under a b h) ∙ sym (is.billed account) ∙ ap (λ w. used w account) (sym (under_seen world_of s))
 
-pub quotas_under : (a : Stack (RowsMap × ObjectsMap)) (b : Stack (List (Name × Share))) → Alike a b →
+pub quotas_under : (a : Stack ((RowsMap × IndexesMap) × ObjectsMap)) (b : Stack (List (Name × Share))) → Alike a b →
     quotas_of (under_top b) ≡ (under_top (later (map_stack world_of (map_stack shown_maps (zip_stacks a b))))).quotas
 quotas_under a b h = ap quotas_of (usage_under a b h) ∙ ap (λ w. w.quotas) (sym (under_seen world_of (map_stack shown_maps (zip_stacks a b))))

@@ -3,6 +3,7 @@ use Rattle.std.specs.Prelude.{◌≡◌, ◌+◌, ◌<◌, ◌^◌, ℕ, List, R
 use Rattle.ante_state.specs.Billing.{most_usage}
 use Rattle.ante_pack.specs.declared.names.Name.{Name}
 use Rattle.ante_rows.specs.declared.rows.RowsMap.{RowsMap}
+use Rattle.ante_secidx.specs.declared.indexes.IndexesMap.{IndexesMap}
 use Rattle.ante_objects.specs.declared.objects.ObjectsMap.{ObjectsMap}
 use Rattle.ante_ram.specs.declared.parts.Share.{Share}
 use Rattle.ante_ram.specs.Usage.{usage_sum}
@@ -14,15 +15,18 @@ use Rattle.ante_store.specs.Bills.{sizes}
 use Rattle.ante_store.specs.Changes.{after, refusal, IsCause}
 use Rattle.ante_store.specs.Worlds.{world_of, IsBilled}
 
--- a change of the rows, of the objects, or of the usage alone
+-- a change of the rows, of the rows of secondary indexes, of the objects, or of the usage alone
 abbrev pub in_rows : (RowsMap → RowsMap) → Maps → Maps
-in_rows change m = record { rows = change m.rows; objects = m.objects; usage = m.usage }
+in_rows change m = record m { rows = change m.rows }
+
+abbrev pub in_indexes : (IndexesMap → IndexesMap) → Maps → Maps
+in_indexes change m = record m { indexes = change m.indexes }
 
 abbrev pub in_objects : (ObjectsMap → ObjectsMap) → Maps → Maps
-in_objects change m = record { rows = m.rows; objects = change m.objects; usage = m.usage }
+in_objects change m = record m { objects = change m.objects }
 
 abbrev pub with_usage : List (Name × Share) → Maps → Maps
-with_usage usage m = record { rows = m.rows; objects = m.objects; usage = usage }
+with_usage usage m = record m { usage = usage }
 
 -- the change was granted and is made, with its bills
 pub record IsMade (c : Change) (old new : Maps) : Type 0 where

@@ -6,11 +6,13 @@ use Rattle.std.specs.FinMap.Entries.{find}
 use Rattle.ante_undo.specs.Entries.{changed}
 use Rattle.ante_pack.specs.declared.names.Name.{Name}
 use Rattle.ante_pack.specs.declared.names.TableKey.{TableKey}
+use Rattle.ante_pack.specs.KeyOrder.{key256_order}
 use Rattle.ante_state.specs.Billing.{most_usage, most_rows}
 use Rattle.ante_state.specs.Orders.{name_order, table_order, row_order, level_order, link_order, recent_order}
 use Rattle.ante_state.specs.declared.tables.RowKey.{RowKey}
 use Rattle.ante_state.specs.declared.tables.TableRow.{TableRow}
 use Rattle.ante_state.specs.declared.tables.PrimaryRow.{PrimaryRow}
+use Rattle.ante_secidx.specs.Index.{index_row, with_index_row, without_index_row, moved}
 use Rattle.ante_types.specs.World.{World, used_by_all}
 use Rattle.ante_store.specs.declared.change.Change.{Change}
 use Rattle.ante_store.specs.declared.change.Change.TheVariants as change
@@ -37,17 +39,12 @@ count_of (Some table) = table.count
 abbrev pub row_at : TableKey → ℕ → World → Option PrimaryRow
 row_at table primary w = find row_order (record { table = table; primary = primary }) w.rows
 
-abbrev pub with_rows : List (TableKey × TableRow) → List (RowKey × PrimaryRow) → World → World
-with_rows tables rows w = record {
-  accounts = w.accounts;
-  permissions = w.permissions;
-  links = w.links;
-  quotas = w.quotas;
-  recent = w.recent;
-  references = w.references;
-  tables = tables;
-  rows = rows;
-}
+-- a row of any kind comes to the table, or one goes
+abbrev pub row_comes : TableKey → Name → World → World
+row_comes table payer w = record w { tables = changed table_order w.tables table (Some (with_row (find table_order table w.tables) payer)) }
+
+abbrev pub row_goes : TableKey → World → World
+row_goes table w = record w { tables = changed table_order w.tables table (without_row (find table_order table w.tables)) }
 
 abbrev pub set_row : TableKey → ℕ → Option PrimaryRow → World → List (RowKey × PrimaryRow)
 set_row table primary row w = changed row_order w.rows (record { table = table; primary = primary }) row
@@ -56,13 +53,21 @@ set_row table primary row w = changed row_order w.rows (record { table = table; 
 
 abbrev pub after : Change → World → World
 after (change.StoreRow table primary payer bytes) w =
-    with_rows
-    (changed table_order w.tables table (Some (with_row (find table_order table w.tables) payer)))
-    (set_row table primary (Some (record { payer = payer; bytes = bytes })) w) w
-after (change.UpdateRow table primary payer bytes) w =
-    with_rows w.tables (set_row table primary (Some (record { payer = payer; bytes = bytes })) w) w
-after (change.RemoveRow table primary) w =
-    with_rows (changed table_order w.tables table (without_row (find table_order table w.tables))) (set_row table primary None w) w
+    record (row_comes table payer w) { rows = set_row table primary (Some (record { payer = payer; bytes = bytes })) w }
+after (change.UpdateRow table primary payer bytes) w = record w { rows = set_row table primary (Some (record { payer = payer; bytes = bytes })) w }
+after (change.RemoveRow table primary) w = record (row_goes table w) { rows = set_row table primary None w }
+after (change.StoreIndex64 table key primary payer) w =
+    record (row_comes table payer w) { index64 = with_index_row nat_cmp table key primary payer w.index64 }
+after (change.UpdateIndex64 table key primary payer) w = record w { index64 = moved nat_cmp table key primary payer w.index64 }
+after (change.RemoveIndex64 table primary) w = record (row_goes table w) { index64 = without_index_row nat_cmp table primary w.index64 }
+after (change.StoreIndex128 table key primary payer) w =
+    record (row_comes table payer w) { index128 = with_index_row nat_cmp table key primary payer w.index128 }
+after (change.UpdateIndex128 table key primary payer) w = record w { index128 = moved nat_cmp table key primary payer w.index128 }
+after (change.RemoveIndex128 table primary) w = record (row_goes table w) { index128 = without_index_row nat_cmp table primary w.index128 }
+after (change.StoreIndex256 table key primary payer) w =
+    record (row_comes table payer w) { index256 = with_index_row key256_order table key primary payer w.index256 }
+after (change.UpdateIndex256 table key primary payer) w = record w { index256 = moved key256_order table key primary payer w.index256 }
+after (change.RemoveIndex256 table primary) w = record (row_goes table w) { index256 = without_index_row key256_order table primary w.index256 }
 after (change.SetAccount name row) w = record w { accounts = changed name_order w.accounts name (Some row) }
 after (change.SetPermission level row) w = record w { permissions = changed level_order w.permissions level row }
 after (change.SetLink account code action requirement) w =
@@ -74,11 +79,27 @@ after (change.SetReference low id) w = record w { references = changed nat_cmp w
 
 -- ---- refusals
 
+-- a new row must not be there yet, and another must be
+abbrev pub new_row : (there : Bool) → Option WriteError
+new_row there = if there then Some error.Exists else None
+
+abbrev pub standing_row : (there : Bool) → Option WriteError
+standing_row there = if there then None else Some error.Missing
+
 -- the row is there already, or isn't there
 abbrev pub misplaced : Change → World → Option WriteError
-misplaced (change.StoreRow table primary payer bytes) w = if is_some (row_at table primary w) then Some error.Exists else None
-misplaced (change.UpdateRow table primary payer bytes) w = if is_some (row_at table primary w) then None else Some error.Missing
-misplaced (change.RemoveRow table primary) w = if is_some (row_at table primary w) then None else Some error.Missing
+misplaced (change.StoreRow table primary payer bytes) w = new_row (is_some (row_at table primary w))
+misplaced (change.UpdateRow table primary payer bytes) w = standing_row (is_some (row_at table primary w))
+misplaced (change.RemoveRow table primary) w = standing_row (is_some (row_at table primary w))
+misplaced (change.StoreIndex64 table key primary payer) w = new_row (is_some (index_row table primary w.index64))
+misplaced (change.UpdateIndex64 table key primary payer) w = standing_row (is_some (index_row table primary w.index64))
+misplaced (change.RemoveIndex64 table primary) w = standing_row (is_some (index_row table primary w.index64))
+misplaced (change.StoreIndex128 table key primary payer) w = new_row (is_some (index_row table primary w.index128))
+misplaced (change.UpdateIndex128 table key primary payer) w = standing_row (is_some (index_row table primary w.index128))
+misplaced (change.RemoveIndex128 table primary) w = standing_row (is_some (index_row table primary w.index128))
+misplaced (change.StoreIndex256 table key primary payer) w = new_row (is_some (index_row table primary w.index256))
+misplaced (change.UpdateIndex256 table key primary payer) w = standing_row (is_some (index_row table primary w.index256))
+misplaced (change.RemoveIndex256 table primary) w = standing_row (is_some (index_row table primary w.index256))
 misplaced (change.SetAccount name row) w = None
 misplaced (change.SetPermission level row) w = None
 misplaced (change.SetLink account code action requirement) w = None
@@ -86,11 +107,24 @@ misplaced (change.SetQuota account quota) w = None
 misplaced (change.SetRecent expiration id there) w = None
 misplaced (change.SetReference low id) w = None
 
+-- the table has as many rows as it may
+abbrev pub is_table_full : TableKey → World → Bool
+is_table_full table w = nat_le most_rows (count_of (find table_order table w.tables))
+
 -- one table would have too many rows
 abbrev pub is_full : Change → World → Bool
-is_full (change.StoreRow table primary payer bytes) w = nat_le most_rows (count_of (find table_order table w.tables))
+is_full (change.StoreRow table primary payer bytes) w = is_table_full table w
 is_full (change.UpdateRow table primary payer bytes) w = false
 is_full (change.RemoveRow table primary) w = false
+is_full (change.StoreIndex64 table key primary payer) w = is_table_full table w
+is_full (change.UpdateIndex64 table key primary payer) w = false
+is_full (change.RemoveIndex64 table primary) w = false
+is_full (change.StoreIndex128 table key primary payer) w = is_table_full table w
+is_full (change.UpdateIndex128 table key primary payer) w = false
+is_full (change.RemoveIndex128 table primary) w = false
+is_full (change.StoreIndex256 table key primary payer) w = is_table_full table w
+is_full (change.UpdateIndex256 table key primary payer) w = false
+is_full (change.RemoveIndex256 table primary) w = false
 is_full (change.SetAccount name row) w = false
 is_full (change.SetPermission level row) w = false
 is_full (change.SetLink account code action requirement) w = false

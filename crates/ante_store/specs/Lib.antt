@@ -6,4 +6,5 @@ pub mod Worlds
 pub mod Genesis
 pub mod Shown
 pub mod Applied
+pub mod Widths
 pub mod Later

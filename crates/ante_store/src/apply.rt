@@ -4,12 +4,14 @@ ghost use Rattle.ante_undo.specs.Stack.{with_top, IsAbove};
 ghost use Rattle.ante_store.specs.Worlds.{IsBilled};
 ghost use Rattle.ante_store.specs.Applied.{MadeOrRefused};
 
+use crate::apply_indexes::{remove_index, store_index, update_index};
 use crate::apply_objects::{
     set_account, set_link, set_permission, set_quota, set_recent, set_reference,
 };
 use crate::apply_rows::{remove_row, store_row, update_row};
 use crate::change::{Change, WriteError};
 use crate::parts::Parts;
+use ante_pack::Key256;
 use ante_sessions::Sessions;
 use std::alloc::Global;
 
@@ -35,6 +37,51 @@ pub(crate) fn apply(alloc: Global, parts: &mut Parts, change: Change) -> Result<
             bytes,
         } => update_row(alloc, parts, table, primary, payer, bytes),
         Change::RemoveRow { table, primary } => remove_row(alloc, parts, table, primary),
+        Change::StoreIndex64 {
+            table,
+            key,
+            primary,
+            payer,
+        } => store_index(alloc, parts, table, key, primary, payer),
+        Change::UpdateIndex64 {
+            table,
+            key,
+            primary,
+            payer,
+        } => update_index(alloc, parts, table, key, primary, payer),
+        Change::RemoveIndex64 { table, primary } => {
+            remove_index::<u64>(alloc, parts, table, primary)
+        }
+        Change::StoreIndex128 {
+            table,
+            key,
+            primary,
+            payer,
+        } => store_index(alloc, parts, table, key, primary, payer),
+        Change::UpdateIndex128 {
+            table,
+            key,
+            primary,
+            payer,
+        } => update_index(alloc, parts, table, key, primary, payer),
+        Change::RemoveIndex128 { table, primary } => {
+            remove_index::<u128>(alloc, parts, table, primary)
+        }
+        Change::StoreIndex256 {
+            table,
+            key,
+            primary,
+            payer,
+        } => store_index(alloc, parts, table, key, primary, payer),
+        Change::UpdateIndex256 {
+            table,
+            key,
+            primary,
+            payer,
+        } => update_index(alloc, parts, table, key, primary, payer),
+        Change::RemoveIndex256 { table, primary } => {
+            remove_index::<Key256>(alloc, parts, table, primary)
+        }
         Change::SetAccount { name, row } => set_account(alloc, parts, name, row),
         Change::SetPermission { level, row } => set_permission(alloc, parts, level, row),
         Change::SetLink {

@@ -91,7 +91,7 @@ pub(crate) fn remove_row(
     Ok(())
 }
 
-fn count_of(object: Option<TableRow>) -> u32
+pub(crate) fn count_of(object: Option<TableRow>) -> u32
     ensures { result ≡ count_of object }
 {
     match object {
@@ -100,7 +100,7 @@ fn count_of(object: Option<TableRow>) -> u32
     }
 }
 
-fn with_row(object: Option<TableRow>, payer: Name) -> TableRow
+pub(crate) fn with_row(object: Option<TableRow>, payer: Name) -> TableRow
     requires room { count_of object < most_rows }
     ensures { result ≡ with_row object payer }
 {
@@ -113,7 +113,7 @@ fn with_row(object: Option<TableRow>, payer: Name) -> TableRow
     }
 }
 
-fn without_row(object: Option<TableRow>) -> Option<TableRow>
+pub(crate) fn without_row(object: Option<TableRow>) -> Option<TableRow>
     ensures { result ≡ without_row object }
 {
     match object {

@@ -1,7 +1,7 @@
 ghost use Rattle.std.specs.Prelude.{◌≡◌};
 ghost use Rattle.ante_store.specs.declared.change.WriteError.TheVariants.{OutOfMemory};
 
-use ante_pack::{Bytes, Digest, Level, Name, TableKey};
+use ante_pack::{Bytes, Digest, Key256, Level, Name, TableKey};
 use ante_state::{AccountRow, PermissionRow};
 use std::alloc::AllocError;
 use thiserror::Error;
@@ -25,6 +25,60 @@ pub enum Change {
     },
     /// A row goes, and with the last row of a table its table object.
     RemoveRow {
+        table: TableKey,
+        primary: u64,
+    },
+    /// A new row of the secondary index of 64 bits, under the same rules as a primary row.
+    StoreIndex64 {
+        table: TableKey,
+        key: u64,
+        primary: u64,
+        payer: Name,
+    },
+    /// Another secondary key and another payer for a row that is there.
+    UpdateIndex64 {
+        table: TableKey,
+        key: u64,
+        primary: u64,
+        payer: Name,
+    },
+    RemoveIndex64 {
+        table: TableKey,
+        primary: u64,
+    },
+    /// A new row of the secondary index of 128 bits, under the same rules as a primary row.
+    StoreIndex128 {
+        table: TableKey,
+        key: u128,
+        primary: u64,
+        payer: Name,
+    },
+    /// Another secondary key and another payer for a row that is there.
+    UpdateIndex128 {
+        table: TableKey,
+        key: u128,
+        primary: u64,
+        payer: Name,
+    },
+    RemoveIndex128 {
+        table: TableKey,
+        primary: u64,
+    },
+    /// A new row of the secondary index of 256 bits, under the same rules as a primary row.
+    StoreIndex256 {
+        table: TableKey,
+        key: Key256,
+        primary: u64,
+        payer: Name,
+    },
+    /// Another secondary key and another payer for a row that is there.
+    UpdateIndex256 {
+        table: TableKey,
+        key: Key256,
+        primary: u64,
+        payer: Name,
+    },
+    RemoveIndex256 {
         table: TableKey,
         primary: u64,
     },

@@ -7,12 +7,12 @@ use ante_pack::Digest;
 
 impl Store {
     /// The SHA-256 of the packed state: accounts, permissions, links, usage, recent transactions, references, tables,
-    /// primary rows, and three empty lists of index rows.
+    /// primary rows, and the rows of secondary indexes of 64, 128 and 256 bits.
     pub fn digest(&self) -> Digest
         ensures { result ≡ state_digest self.now.top }
     {
         let usage = self.usage();
         usage.entries_hold();
-        digest_of_parts(self.objects(), usage, self.rows())
+        digest_of_parts(self.objects(), usage, self.rows(), self.indexes())
     }
 }

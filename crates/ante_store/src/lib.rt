@@ -2,6 +2,7 @@
 #![tactic(auto)]
 
 mod apply;
+mod apply_indexes;
 mod apply_objects;
 mod apply_rows;
 mod billing;
@@ -14,6 +15,7 @@ mod parts;
 mod sizes;
 mod store;
 mod tables;
+mod widths;
 
 pub use change::{Change, WriteError};
 pub use store::{Store, WorldMap};

@@ -7,6 +7,7 @@ use ante_objects::{Objects, ObjectsMap};
 use ante_pack::Name;
 use ante_ram::{Share, Usage};
 use ante_rows::{Rows, RowsMap};
+use ante_secidx::{Indexes, IndexesMap};
 use ante_sessions::{Both, Entries, Kept, Rule};
 use std::alloc::Global;
 use std::marker::PhantomData;
@@ -14,6 +15,7 @@ use std::marker::PhantomData;
 /// The maps of the store as contracts name them. None is ever made.
 pub struct Maps {
     pub rows: RowsMap,
+    pub indexes: IndexesMap,
     pub objects: ObjectsMap,
     pub usage: Entries<Name, Share>,
 }
@@ -21,7 +23,12 @@ pub struct Maps {
 /// What holds of the maps of a store.
 pub struct MapsRule;
 
-impl Rule<Both<Both<Rows, Objects>, Usage>> for MapsRule {
+/// The rows of all kinds in the same sessions.
+pub(crate) type Kinds = Both<Rows, Indexes>;
+
+type AllMaps = Both<Both<Kinds, Objects>, Usage>;
+
+impl Rule<AllMaps> for MapsRule {
     type Shown = Maps;
 
     ghost shown = { shown_maps };
@@ -30,15 +37,19 @@ impl Rule<Both<Both<Rows, Objects>, Usage>> for MapsRule {
 }
 
 /// Rows, objects and usage in the same sessions.
-pub(crate) type Parts = Kept<Both<Both<Rows, Objects>, Usage>, MapsRule>;
+pub(crate) type Parts = Kept<AllMaps, MapsRule>;
 
 /// Nothing at all, at the revision.
 pub(crate) fn no_parts(alloc: Global, revision: u64) -> Parts
     requires small { revision < 2 ^ 63 }
     ensures { result ≡ opened no_maps revision }
 {
-    let both = Both {
+    let kinds = Both {
         first: Rows::new(alloc, revision),
+        second: Indexes::new(alloc, revision),
+    };
+    let both = Both {
+        first: kinds,
         second: Objects::new(alloc, revision),
     };
     Kept {

@@ -14,8 +14,10 @@ use crate::apply::apply_whole;
 use crate::change::{Change, WriteError};
 use crate::parts::Parts;
 use ante_objects::Objects;
+use ante_pack::Key256;
 use ante_ram::Usage;
 use ante_rows::Rows;
+use ante_secidx::{Indexes, SecIndex};
 use ante_sessions::{Kept, Rule, Sessions};
 use std::alloc::{AllocError, Global};
 use std::marker::{Model, PhantomData};
@@ -70,7 +72,28 @@ impl Store {
         ensures tables { result.now.top.tables ≡ self.now.top.tables }
         ensures rows { result.now.top.rows ≡ self.now.top.rows }
     {
-        &self.kept.inner.inner.first.first
+        &self.kept.inner.inner.first.first.first
+    }
+
+    /// The rows of secondary indexes by keys of 64 bits.
+    pub fn index64(&self) -> &SecIndex<u64>
+        ensures { result.now.top ≡ self.now.top.index64 }
+    {
+        self.indexes().index64()
+    }
+
+    /// The rows of secondary indexes by keys of 128 bits.
+    pub fn index128(&self) -> &SecIndex<u128>
+        ensures { result.now.top ≡ self.now.top.index128 }
+    {
+        self.indexes().index128()
+    }
+
+    /// The rows of secondary indexes by keys of 256 bits.
+    pub fn index256(&self) -> &SecIndex<Key256>
+        ensures { result.now.top ≡ self.now.top.index256 }
+    {
+        self.indexes().index256()
     }
 
     /// The chain's own objects.
@@ -100,6 +123,15 @@ impl Store {
         ensures { Throughout IsWorld self.now }
     {
         let _parts = &self.kept.inner;
+    }
+
+    // The secondary indexes of the three widths.
+    pub(crate) fn indexes(&self) -> &Indexes
+        ensures index64 { result.now.top.index64 ≡ self.now.top.index64 }
+        ensures index128 { result.now.top.index128 ≡ self.now.top.index128 }
+        ensures index256 { result.now.top.index256 ≡ self.now.top.index256 }
+    {
+        &self.kept.inner.inner.first.first.second
     }
 
     /// A store of these parts alone, at revision 1.

@@ -46,6 +46,9 @@ world_with accounts = record {
   references = [];
   tables = [];
   rows = [];
+  index64 = [];
+  index128 = [];
+  index256 = [];
 }
 
 -- and the id of genesis as the reference of its number

@@ -3,12 +3,14 @@ use Rattle.std.specs.Prelude.{ℕ, ◌+◌, ◌*◌, ◌==◌, ℤ, List, [], �
 use Rattle.std.specs.List.{sum_by, flat_map}
 use Rattle.ante_pack.specs.declared.names.Name.{Name}
 use Rattle.ante_pack.specs.declared.names.TableKey.{TableKey}
+use Rattle.ante_pack.specs.declared.names.Key256.{Key256}
 use Rattle.ante_pack.specs.declared.authority.Level.{Level}
 use Rattle.ante_pack.specs.Packed.{authority}
-use Rattle.ante_state.specs.Billing.{account_size, code_factor, permission_size, link_size, table_size, row_size}
+use Rattle.ante_state.specs.Billing.{account_size, code_factor, permission_size, link_size, table_size, row_size, index64_size, index128_size, index256_size}
 use Rattle.ante_state.specs.declared.tables.RowKey.{RowKey}
 use Rattle.ante_state.specs.declared.tables.TableRow.{TableRow}
 use Rattle.ante_state.specs.declared.tables.PrimaryRow.{PrimaryRow}
+use Rattle.ante_state.specs.declared.tables.IndexKey.{IndexKey}
 use Rattle.ante_state.specs.declared.objects.AccountRow.{AccountRow}
 use Rattle.ante_state.specs.declared.objects.PermissionRow.{PermissionRow}
 use Rattle.ante_state.specs.declared.objects.LinkKey.{LinkKey}
@@ -27,6 +29,10 @@ pub record World : Type 0 where
   pub references : List (ℕ × List ℕ)
   pub tables : List (TableKey × TableRow)
   pub rows : List (RowKey × PrimaryRow)
+  -- the rows of secondary indexes by the bits of their keys, each with who pays for it
+  pub index64 : List (IndexKey ℕ × Name)
+  pub index128 : List (IndexKey ℕ × Name)
+  pub index256 : List (IndexKey Key256 × Name)
 
 -- An entry's bills: who pays, and the size.
 
@@ -45,11 +51,16 @@ table_bills e = (e.1.payer, table_size) ∷ []
 abbrev pub row_bills : RowKey × PrimaryRow → List (Name × ℕ)
 row_bills e = (e.1.payer, row_size + length e.1.bytes) ∷ []
 
+abbrev pub index_bills : {K : Type 0} → ℕ → IndexKey K × Name → List (Name × ℕ)
+index_bills size e = (e.1, size) ∷ []
+
 -- all bills
 abbrev pub bills : World → List (Name × ℕ)
 bills w =
     flat_map account_bills w.accounts ++ flat_map permission_bills w.permissions ++ flat_map link_bills w.links
     ++ flat_map table_bills w.tables ++ flat_map row_bills w.rows
+    ++ flat_map (index_bills index64_size) w.index64 ++ flat_map (index_bills index128_size) w.index128
+    ++ flat_map (index_bills index256_size) w.index256
 
 -- what one account pays of a bill
 abbrev pub paid_by : Name → Name × ℕ → ℕ

@@ -1,7 +1,8 @@
 use Rattle.std.proofs.Common.{T, refl, sym, ap, subst, ◌∙◌, option_map}
 use Rattle.std.specs.Ordering.{is_ge}
 use Rattle.ante_undo.specs.Entries.{entry_from}
-use Rattle.ante_secidx.specs.Index.{in_table, index_of, pair_order}
+use Rattle.ante_secidx.specs.Index.{in_table, index_of}
+use Rattle.ante_state.specs.Orders.{pair_order}
 use Rattle.ante_secidx.proofs.Neighbours.{first_in}
 use Rattle.ante_secidx.proofs.index.SecIndex.first_from.Goals as goal
 

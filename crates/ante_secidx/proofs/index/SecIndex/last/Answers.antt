@@ -2,7 +2,8 @@ use Rattle.std.proofs.Common.{◌≤◌, T, refl, sym, ap, subst, ◌∙◌, opt
 use Rattle.std.specs.Ordering.{is_le}
 use Rattle.ante_undo.specs.Entries.{entry_up_to}
 use Rattle.ante_secidx.specs.Keys.{greatest_64}
-use Rattle.ante_secidx.specs.Index.{in_table, index_of, pair_order}
+use Rattle.ante_secidx.specs.Index.{in_table, index_of}
+use Rattle.ante_state.specs.Orders.{pair_order}
 use Rattle.ante_secidx.proofs.Bounds.{last_is, all_of, all_weaker}
 use Rattle.ante_secidx.proofs.Neighbours.{last_in}
 use Rattle.ante_secidx.proofs.index.SecIndex.last.Goals as goal

@@ -2,7 +2,8 @@ use Rattle.std.proofs.Common.{sym, ap, ◌∙◌, option_map}
 use Rattle.std.specs.Map.Iter.{deref_pair}
 use Rattle.ante_undo.specs.Entries.{first_entry}
 use Rattle.ante_sessions.specs.Walk.{past}
-use Rattle.ante_secidx.specs.Index.{place_key, shown_row, index_order}
+use Rattle.ante_secidx.specs.Index.{place_key, shown_row}
+use Rattle.ante_state.specs.Orders.{index_order}
 use Rattle.ante_secidx.proofs.index.SecIndex.next_entry.Goals as goal
 
 pub returns-in-Some-clause-next : goal.returns-in-Some-clause-next

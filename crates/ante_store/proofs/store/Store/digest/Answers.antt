@@ -12,6 +12,7 @@ returns c =
     c.usage-usage.ensures.quotas in
     let o = c.objects.ensures in
     let r = c.rows.ensures in
+    let x = c.indexes.ensures in
     c.digest_of_parts.ensures
     ∙ ap (λ lists. sha256 (packed_lists lists)) (λ i. record {
       accounts = o.accounts i;
@@ -22,4 +23,7 @@ returns c =
       references = o.references i;
       tables = r.tables i;
       rows = r.rows i;
+      index64 = x.index64 i;
+      index128 = x.index128 i;
+      index256 = x.index256 i;
     })
