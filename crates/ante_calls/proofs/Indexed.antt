@@ -2,8 +2,9 @@
 use Rattle.std.proofs.Common.{◌≡◌, refl, ℕ, ◌-◌, ◌^◌, [], ◌∷◌, None, Some}
 use Rattle.std.specs.Prelude.{pos, negsuc}
 use Rattle.ante_pack.specs.declared.names.Key256.{Key256}
-use Rattle.ante_store.specs.declared.change.Change.TheVariants as change
-use Rattle.ante_calls.specs.IndexCalls.{IndexRows, key256, index_kind, find_primary, lowerbound, upperbound}
+use Rattle.ante_pack.specs.declared.names.Name.{Name}
+use Rattle.ante_state.specs.declared.tables.IndexKey.{IndexKey}
+use Rattle.ante_calls.specs.IndexCalls.{key256, rows256, index_kind, find_primary, lowerbound, upperbound}
 use Rattle.ante_calls.specs.Rows.{next, previous}
 use Rattle.ante_calls.specs.Views.{RowView}
 use Rattle.ante_calls.proofs.Iterated.{key, one_row, view, answer}
@@ -11,41 +12,36 @@ use Rattle.ante_calls.proofs.Iterated.{key, one_row, view, answer}
 abbrev pub words : ℕ → ℕ → Key256
 words first second = record { first = first; second = second }
 
+abbrev pub row : Key256 → ℕ → IndexKey Key256 × Name
+row secondary primary = (record { table = key; key = secondary; primary = primary }, record { 0 = 1 })
+
 -- (1, 0) with primary keys 7 and 9, (1, 2^128 - 1) with primary key 3
-abbrev pub rows : IndexRows Key256
-rows = record {
-  rows = λ table w. ((words 1 0, 7), record { 0 = 1 }) ∷ ((words 1 0, 9), record { 0 = 1 }) ∷ ((words 1 (2 ^ 128 - 1), 3), record { 0 = 1 }) ∷ [];
-  storing = λ table primary payer key. change.RemoveRow table primary;
-  updating = λ table primary payer key. change.RemoveRow table primary;
-  removing = λ table primary. change.RemoveRow table primary;
-}
-
 abbrev pub start : RowView
-start = view one_row
+start = view (record one_row { index256 = row (words 1 0) 7 ∷ row (words 1 0) 9 ∷ row (words 1 (2 ^ 128 - 1)) 3 ∷ [] })
 
-lower_of_least : (lowerbound key256 rows key (words 0 0) start).0 ≡ (pos 0, Some (words 1 0, 7))
+lower_of_least : (lowerbound key256 rows256 key (words 0 0) start).0 ≡ (pos 0, Some (words 1 0, 7))
 lower_of_least = refl
 
-lower_of_equal : (lowerbound key256 rows key (words 1 0) start).0 ≡ (pos 0, Some (words 1 0, 7))
+lower_of_equal : (lowerbound key256 rows256 key (words 1 0) start).0 ≡ (pos 0, Some (words 1 0, 7))
 lower_of_equal = refl
 
-upper_of_equal : (upperbound key256 rows key (words 1 0) start).0 ≡ (pos 0, Some (words 1 (2 ^ 128 - 1), 3))
+upper_of_equal : (upperbound key256 rows256 key (words 1 0) start).0 ≡ (pos 0, Some (words 1 (2 ^ 128 - 1), 3))
 upper_of_equal = refl
 
-upper_of_greatest : (upperbound key256 rows key (words 1 (2 ^ 128 - 1)) start).0 ≡ (negsuc 1, None)
+upper_of_greatest : (upperbound key256 rows256 key (words 1 (2 ^ 128 - 1)) start).0 ≡ (negsuc 1, None)
 upper_of_greatest = refl
 
 abbrev pub at_end : RowView
-at_end = (upperbound key256 rows key (words 1 (2 ^ 128 - 1)) start).1
+at_end = (upperbound key256 rows256 key (words 1 (2 ^ 128 - 1)) start).1
 
-before_end : answer (pos 9, None) (previous (index_kind key256 rows) (negsuc 1) at_end) ≡ (pos 0, Some 3)
+before_end : answer (pos 9, None) (previous (index_kind key256 rows256) (negsuc 1) at_end) ≡ (pos 0, Some 3)
 before_end = refl
 
 abbrev pub first_met : RowView
-first_met = (find_primary key256 rows key 7 start).1
+first_met = (find_primary key256 rows256 key 7 start).1
 
-before_first : answer (pos 9, None) (previous (index_kind key256 rows) (pos 0) first_met) ≡ (negsuc 0, None)
+before_first : answer (pos 9, None) (previous (index_kind key256 rows256) (pos 0) first_met) ≡ (negsuc 0, None)
 before_first = refl
 
-after_first : answer (pos 9, None) (next (index_kind key256 rows) (pos 0) first_met) ≡ (pos 1, Some 9)
+after_first : answer (pos 9, None) (next (index_kind key256 rows256) (pos 0) first_met) ≡ (pos 1, Some 9)
 after_first = refl

@@ -26,7 +26,7 @@ account n = (n, record { payer = n; privileged = false; code = []; abi = [] })
 
 -- four accounts: three with small numbers, and the system's
 abbrev pub empty : World
-empty = record { accounts = account (named 1) ∷ account (named 2) ∷ account (named 3) ∷ account eosio ∷ []; permissions = []; links = []; quotas = []; recent = []; references = []; tables = []; rows = [] }
+empty = record { accounts = account (named 1) ∷ account (named 2) ∷ account (named 3) ∷ account eosio ∷ []; permissions = []; links = []; quotas = []; recent = []; references = []; tables = []; rows = []; index64 = []; index128 = []; index256 = [] }
 
 abbrev pub key : TableKey
 key = record { code = named 1; scope = named 7; table = named 8 }

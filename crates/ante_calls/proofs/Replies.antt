@@ -46,11 +46,11 @@ use Rattle.ante_calls.specs.Authorization.{yes_or_no, asking_refusal, sending_re
 use Rattle.ante_calls.specs.Calls.{arg, arg32, signed_arg, name_arg, word, long, range, bytes_from, shorter, reading, paying, writing, unless, write_refused, map_reply}
 use Rattle.ante_calls.specs.Console.{prints_text}
 use Rattle.ante_calls.specs.ChainState.{limits_refusal, limit_arg, quota_set}
-use Rattle.ante_calls.specs.IndexCalls.{KeyForm, IndexRows, key64, key128, key256, index_kind, key_bytes, key_refusal, after_key, name_of, find_primary, find_secondary, lowerbound, upperbound, shows_key, shows_primary, shows_both, idx_bound, index_call}
+use Rattle.ante_calls.specs.IndexCalls.{KeyForm, IndexRows, key64, key128, key256, rows64, rows128, rows256, index_kind, key_bytes, key_refusal, after_key, name_of, find_primary, find_secondary, lowerbound, upperbound, shows_key, shows_primary, shows_both, idx_bound, index_call}
 use Rattle.ante_itercache.specs.Iterators.{live_row}
 use Rattle.ante_calls.specs.Kinds.{primary_kind}
 use Rattle.ante_calls.specs.MemoryCalls.{comparison}
-use Rattle.ante_calls.specs.Numbers.{Indexes, intrinsics, intrinsic_at, intrinsic}
+use Rattle.ante_calls.specs.Numbers.{intrinsics, intrinsic_at, intrinsic}
 use Rattle.ante_calls.specs.PrimaryCalls.{table_arg, find_i64, lowerbound_i64, upperbound_i64, got, row_call}
 use Rattle.ante_calls.specs.Rows.{Answer, then_do, some_or, end, next, previous, store, update, remove}
 use Rattle.ante_calls.specs.RowReplies.{failure_of, answered, iterator_alone, no_answer, iterator_and_primary}
@@ -400,23 +400,23 @@ result_of (group.Index256 c) = index_result c
 pub results-listed : map (λ c. result_of c.1) intrinsics ≡ map (λ t. t.1) types
 results-listed = refl
 
-pub intrinsic_typed : (indexes : Indexes) (c : Intrinsic) (s : Seen) (args : List ℕ) (m : LinearMemory) (left : ℕ) → IsReplyOf (result_of c) (intrinsic indexes (Some c) s args m left).reply
-intrinsic_typed indexes (group.Sys c) s args m left = mapped_typed (sys_result c) (with_sys s) _ (sys_typed s.packed c (sys_of s) args m left)
-intrinsic_typed indexes (group.Row c) s args m left = mapped_typed (row_result c) (with_rows s) _ (row_typed c s.run (rows_of s) args m left)
-intrinsic_typed indexes (group.Index64 c) s args m left = mapped_typed (index_result c) (with_index64 s) _ (index_typed key64 indexes.index64 c s.run (index64_of s) args m left)
-intrinsic_typed indexes (group.Index128 c) s args m left = mapped_typed (index_result c) (with_index128 s) _ (index_typed key128 indexes.index128 c s.run (index128_of s) args m left)
-intrinsic_typed indexes (group.Index256 c) s args m left = mapped_typed (index_result c) (with_index256 s) _ (index_typed key256 indexes.index256 c s.run (index256_of s) args m left)
+pub intrinsic_typed : (c : Intrinsic) (s : Seen) (args : List ℕ) (m : LinearMemory) (left : ℕ) → IsReplyOf (result_of c) (intrinsic (Some c) s args m left).reply
+intrinsic_typed (group.Sys c) s args m left = mapped_typed (sys_result c) (with_sys s) _ (sys_typed s.packed c (sys_of s) args m left)
+intrinsic_typed (group.Row c) s args m left = mapped_typed (row_result c) (with_rows s) _ (row_typed c s.run (rows_of s) args m left)
+intrinsic_typed (group.Index64 c) s args m left = mapped_typed (index_result c) (with_index64 s) _ (index_typed key64 rows64 c s.run (index64_of s) args m left)
+intrinsic_typed (group.Index128 c) s args m left = mapped_typed (index_result c) (with_index128 s) _ (index_typed key128 rows128 c s.run (index128_of s) args m left)
+intrinsic_typed (group.Index256 c) s args m left = mapped_typed (index_result c) (with_index256 s) _ (index_typed key256 rows256 c s.run (index256_of s) args m left)
 
 -- ---- all calls by their numbers
 
-of_found : (indexes : Indexes) (found : Option (List ℕ × Intrinsic)) (r : Option ValueKind) (s : Seen) (args : List ℕ) (m : LinearMemory) (left : ℕ) →
-    option_map (λ c. result_of c.1) found ≡ Some r → IsReplyOf r (intrinsic indexes (option_map (λ c. c.1) found) s args m left).reply
-of_found indexes None r s args m left e = absurd (subst (λ o. T (is_none o)) e tt)
-of_found indexes (Some c) r s args m left e =
-    subst (λ x. IsReplyOf x (intrinsic indexes (Some c.1) s args m left).reply) (ap (λ o. unwrap_or o (result_of c.1)) e) (intrinsic_typed indexes c.1 s args m left)
+of_found : (found : Option (List ℕ × Intrinsic)) (r : Option ValueKind) (s : Seen) (args : List ℕ) (m : LinearMemory) (left : ℕ) →
+    option_map (λ c. result_of c.1) found ≡ Some r → IsReplyOf r (intrinsic (option_map (λ c. c.1) found) s args m left).reply
+of_found None r s args m left e = absurd (subst (λ o. T (is_none o)) e tt)
+of_found (Some c) r s args m left e =
+    subst (λ x. IsReplyOf x (intrinsic (Some c.1) s args m left).reply) (ap (λ o. unwrap_or o (result_of c.1)) e) (intrinsic_typed c.1 s args m left)
 
-pub typed_by_number : (indexes : Indexes) (number : ℕ) (params : List ValueKind) (r : Option ValueKind) (s : Seen) (args : List ℕ) (m : LinearMemory) (left : ℕ) →
-    type_at number ≡ Some (params, r) → IsReplyOf r (intrinsic indexes (intrinsic_at number) s args m left).reply
-typed_by_number indexes number params r s args m left e =
-    of_found indexes (slice_get intrinsics number) r s args m left
+pub typed_by_number : (number : ℕ) (params : List ValueKind) (r : Option ValueKind) (s : Seen) (args : List ℕ) (m : LinearMemory) (left : ℕ) →
+    type_at number ≡ Some (params, r) → IsReplyOf r (intrinsic (intrinsic_at number) s args m left).reply
+typed_by_number number params r s args m left e =
+    of_found (slice_get intrinsics number) r s args m left
     (sym (slice_get-map (λ c. result_of c.1) intrinsics number) ∙ ap (λ l. slice_get l number) results-listed ∙ slice_get-map (λ t. t.1) types number ∙ ap (option_map (λ t. t.1)) e)

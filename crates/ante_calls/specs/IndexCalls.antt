@@ -1,5 +1,4 @@
--- The calls on the rows of a secondary index, for keys of 64, 128 and 256 bits. A row stands by its key and then its primary key. The state
--- has no such rows yet: where they stand in it, and the changes that make them, are a parameter (`IndexRows`).
+-- The calls on the rows of a secondary index, for keys of 64, 128 and 256 bits. A row stands by its key and then its primary key.
 use Rattle.std.specs.Prelude.{ℕ, ◌+◌, ◌==◌, ℤ, Bool, false, List, ◌++◌, take, drop, codes, Option, None, Some, option_map, if◌then◌else◌}
 use Rattle.std.specs.declared.cmp.Ordering.{Ordering}
 use Rattle.std.specs.Int.{w64, w128, to_le_bytes, from_le_bytes}
@@ -13,7 +12,9 @@ use Rattle.ante_types.specs.declared.context.RunContext.{RunContext}
 use Rattle.ante_types.specs.declared.failure.Failure.{Failure}
 use Rattle.ante_types.specs.declared.failure.Failure.TheVariants as failure
 use Rattle.ante_types.specs.World.{World}
+use Rattle.ante_secidx.specs.Index.{index_of}
 use Rattle.ante_store.specs.declared.change.Change.{Change}
+use Rattle.ante_store.specs.declared.change.Change.TheVariants as change
 use Rattle.ante_wmem.specs.Linear.{LinearMemory}
 use Rattle.ante_wmem.specs.HostCalls.{Reply, Outcome, value}
 use Rattle.ante_calls.specs.declared.calls.IndexCall.{IndexCall}
@@ -63,6 +64,30 @@ pub record IndexRows (K : Type 0) : Type 0 where
   pub storing : TableKey → ℕ → Name → K → Change
   pub updating : TableKey → ℕ → Name → K → Change
   pub removing : TableKey → ℕ → Change
+
+abbrev pub rows64 : IndexRows ℕ
+rows64 = record {
+  rows = λ table w. index_of table w.index64;
+  storing = λ table primary payer key. change.StoreIndex64 table key primary payer;
+  updating = λ table primary payer key. change.UpdateIndex64 table key primary payer;
+  removing = λ table primary. change.RemoveIndex64 table primary;
+}
+
+abbrev pub rows128 : IndexRows ℕ
+rows128 = record {
+  rows = λ table w. index_of table w.index128;
+  storing = λ table primary payer key. change.StoreIndex128 table key primary payer;
+  updating = λ table primary payer key. change.UpdateIndex128 table key primary payer;
+  removing = λ table primary. change.RemoveIndex128 table primary;
+}
+
+abbrev pub rows256 : IndexRows Key256
+rows256 = record {
+  rows = λ table w. index_of table w.index256;
+  storing = λ table primary payer key. change.StoreIndex256 table key primary payer;
+  updating = λ table primary payer key. change.UpdateIndex256 table key primary payer;
+  removing = λ table primary. change.RemoveIndex256 table primary;
+}
 
 module _ {K : Type 0} (form : KeyForm K) (index : IndexRows K) where
   abbrev pub entry_with : TableKey → ℕ → World → Option ((K × ℕ) × Name)

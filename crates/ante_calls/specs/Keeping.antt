@@ -39,9 +39,9 @@ use Rattle.ante_calls.specs.ActionData.{most_return}
 use Rattle.ante_calls.specs.Authorization.{asking_refusal, is_notified, sending_refusal, sent}
 use Rattle.ante_calls.specs.Calls.{arg, arg32, signed_arg, name_arg, range, bytes_from, text, reading, paying, writing, unless, map_reply, map_outcome}
 use Rattle.ante_calls.specs.ChainState.{limits_refusal, quota_set}
-use Rattle.ante_calls.specs.IndexCalls.{KeyForm, IndexRows, index_kind, first_place, key_bytes, key_refusal, after_key, index_call, key64, key128, key256}
+use Rattle.ante_calls.specs.IndexCalls.{KeyForm, IndexRows, index_kind, first_place, key_bytes, key_refusal, after_key, index_call, key64, key128, key256, rows64, rows128, rows256}
 use Rattle.ante_calls.specs.Kinds.{Kind, primary_kind}
-use Rattle.ante_calls.specs.Numbers.{Indexes, intrinsic}
+use Rattle.ante_calls.specs.Numbers.{intrinsic}
 use Rattle.ante_calls.specs.PrimaryCalls.{table_arg, get_i64, got, row_call}
 use Rattle.ante_calls.specs.RowReplies.{answered, iterator_alone, no_answer, iterator_and_primary}
 use Rattle.ante_calls.specs.Rows as rows
@@ -456,19 +456,19 @@ module _ (s : Seen) where
     packed = refl;
   }
 
-  pub intrinsic_fine : (indexes : Indexes) (c : Option Intrinsic) (args : List ℕ) (m : LinearMemory) (left : ℕ) →
-      Fine (Goes s) left (intrinsic indexes c s args m left)
-  intrinsic_fine indexes (Some (group.Sys c)) args m left =
+  pub intrinsic_fine : (c : Option Intrinsic) (args : List ℕ) (m : LinearMemory) (left : ℕ) →
+      Fine (Goes s) left (intrinsic c s args m left)
+  intrinsic_fine (Some (group.Sys c)) args m left =
       fine_mapped (InMode s.run.mode) (Goes s) (with_sys s) goes_sys left _ (sys_fine s.packed (sys_of s) args m left c)
-  intrinsic_fine indexes (Some (group.Row c)) args m left =
+  intrinsic_fine (Some (group.Row c)) args m left =
       fine_mapped (Met s.lists.rows) (Goes s) (with_rows s) goes_rows left _ (row_fine s.run (rows_of s) args m left c)
-  intrinsic_fine indexes (Some (group.Index64 c)) args m left =
+  intrinsic_fine (Some (group.Index64 c)) args m left =
       fine_mapped (Met s.lists.index64) (Goes s) (with_index64 s) goes_index64 left _
-      (index_fine s.run (index64_of s) args m left key64 indexes.index64 c)
-  intrinsic_fine indexes (Some (group.Index128 c)) args m left =
+      (index_fine s.run (index64_of s) args m left key64 rows64 c)
+  intrinsic_fine (Some (group.Index128 c)) args m left =
       fine_mapped (Met s.lists.index128) (Goes s) (with_index128 s) goes_index128 left _
-      (index_fine s.run (index128_of s) args m left key128 indexes.index128 c)
-  intrinsic_fine indexes (Some (group.Index256 c)) args m left =
+      (index_fine s.run (index128_of s) args m left key128 rows128 c)
+  intrinsic_fine (Some (group.Index256 c)) args m left =
       fine_mapped (Met s.lists.index256) (Goes s) (with_index256 s) goes_index256 left _
-      (index_fine s.run (index256_of s) args m left key256 indexes.index256 c)
-  intrinsic_fine indexes None args m left = record { falls = omega arith; reply = tt }
+      (index_fine s.run (index256_of s) args m left key256 rows256 c)
+  intrinsic_fine None args m left = record { falls = omega arith; reply = tt }

@@ -14,7 +14,7 @@ use Rattle.ante_calls.specs.declared.calls.IndexCall.TheVariants as index
 use Rattle.ante_calls.specs.declared.calls.Intrinsic.{Intrinsic}
 use Rattle.ante_calls.specs.declared.calls.Intrinsic.TheVariants as group
 use Rattle.ante_calls.specs.Calls.{refuses, map_outcome}
-use Rattle.ante_calls.specs.IndexCalls.{IndexRows, key64, key128, key256, index_call}
+use Rattle.ante_calls.specs.IndexCalls.{key64, key128, key256, rows64, rows128, rows256, index_call}
 use Rattle.ante_calls.specs.PrimaryCalls.{row_call}
 use Rattle.ante_calls.specs.System.{sys_call}
 use Rattle.ante_calls.specs.Views.{Seen, sys_of, with_sys, rows_of, with_rows, index64_of, with_index64, index128_of, with_index128, index256_of, with_index256}
@@ -64,18 +64,11 @@ intrinsics = map (λ c. (c.0, group.Sys c.1)) sys_calls ++ (map (λ c. (c.0, gro
 abbrev pub intrinsic_at : ℕ → Option Intrinsic
 intrinsic_at number = option_map (λ c. c.1) (slice_get intrinsics number)
 
--- where the rows of the three indexes stand in the state
-pub record Indexes : Type 0 where
-  pub index64 : IndexRows ℕ
-  pub index128 : IndexRows ℕ
-  pub index256 : IndexRows Key256
-
-module _ (indexes : Indexes) where
-  -- each call on its part of what a run sees; a number that no intrinsic has is never called
-  abbrev pub intrinsic : Option Intrinsic → Seen → List ℕ → LinearMemory → (left : ℕ) → Outcome Seen Failure
-  intrinsic (Some (group.Sys c)) s args m left = map_outcome (with_sys s) (sys_call s.packed c (sys_of s) args m left)
-  intrinsic (Some (group.Row c)) s args m left = map_outcome (with_rows s) (row_call c s.run (rows_of s) args m left)
-  intrinsic (Some (group.Index64 c)) s args m left = map_outcome (with_index64 s) (index_call key64 indexes.index64 c s.run (index64_of s) args m left)
-  intrinsic (Some (group.Index128 c)) s args m left = map_outcome (with_index128 s) (index_call key128 indexes.index128 c s.run (index128_of s) args m left)
-  intrinsic (Some (group.Index256 c)) s args m left = map_outcome (with_index256 s) (index_call key256 indexes.index256 c s.run (index256_of s) args m left)
-  intrinsic None s args m left = refuses failure.Abort left
+-- each call on its part of what a run sees; a number that no intrinsic has is never called
+abbrev pub intrinsic : Option Intrinsic → Seen → List ℕ → LinearMemory → (left : ℕ) → Outcome Seen Failure
+intrinsic (Some (group.Sys c)) s args m left = map_outcome (with_sys s) (sys_call s.packed c (sys_of s) args m left)
+intrinsic (Some (group.Row c)) s args m left = map_outcome (with_rows s) (row_call c s.run (rows_of s) args m left)
+intrinsic (Some (group.Index64 c)) s args m left = map_outcome (with_index64 s) (index_call key64 rows64 c s.run (index64_of s) args m left)
+intrinsic (Some (group.Index128 c)) s args m left = map_outcome (with_index128 s) (index_call key128 rows128 c s.run (index128_of s) args m left)
+intrinsic (Some (group.Index256 c)) s args m left = map_outcome (with_index256 s) (index_call key256 rows256 c s.run (index256_of s) args m left)
+intrinsic None s args m left = refuses failure.Abort left

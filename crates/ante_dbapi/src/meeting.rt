@@ -10,15 +10,16 @@ use ante_pack::TableKey;
 use ante_store::Tables;
 use std::alloc::{AllocError, Global};
 
-pub(crate) fn has_table<T: Tables>(tables: &T, key: &TableKey) -> bool
+/// Whether the state has the table.
+pub fn has_table<T: Tables>(tables: &T, key: &TableKey) -> bool
     ensures { result ≡ has_table key.now (T.stack tables.now).top }
 {
     tables.store().rows().table(key).is_some()
 }
 
-/// Meets the table and then the row, or neither.
+/// Meets the table and then the row, or neither, and answers the row's number.
 #[tactic(auto, using(crate::proofs::Taken::taken_back))]
-pub(crate) fn meet_both(
+pub fn meet_both(
     alloc: Global,
     iters: &mut Iters,
     key: TableKey,

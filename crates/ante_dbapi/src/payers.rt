@@ -7,14 +7,15 @@ use ante_pack::Name;
 use ante_store::Tables;
 use ante_types::{Action, EOSIO, RunContext};
 
-pub(crate) fn is_account<T: Tables>(tables: &T, name: Name) -> bool
+/// Whether the state has the account.
+pub fn is_account<T: Tables>(tables: &T, name: Name) -> bool
     ensures { result ≡ is_account name (T.stack tables.now).top }
 {
     tables.store().objects().account(name).is_some()
 }
 
 /// The run's own receiver, an actor of its action, unless it is a notification, and for the system anybody.
-pub(crate) fn may_bill(payer: Name, run: &RunContext) -> bool
+pub fn may_bill(payer: Name, run: &RunContext) -> bool
     ensures { result ≡ may_bill payer run.now }
 {
     is_system(run.receiver)

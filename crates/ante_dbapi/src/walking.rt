@@ -17,7 +17,7 @@ use ante_types::RunContext;
 use std::alloc::Global;
 
 /// The table and the primary key of the live row with this number.
-pub(crate) fn live_row(iters: &Iters, it: i32) -> Result<(TableKey, u64), DbFault>
+pub fn live_row(iters: &Iters, it: i32) -> Result<(TableKey, u64), DbFault>
     ensures { result ≡ some_or (fault.BadIterator it) (live_row it iters.now) }
 {
     match iters.get(it) {

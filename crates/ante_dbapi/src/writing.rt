@@ -35,8 +35,8 @@ fn write_fault(misplaced: DbFault, error: WriteError) -> DbFault
     }
 }
 
-// Makes the change, or says why the state doesn't take it: `misplaced` where the row is there already, or isn't there.
-fn make<T: Tables>(
+/// Makes the change, or says why the state doesn't take it: `misplaced` where the row is there already, or isn't there.
+pub fn make<T: Tables>(
     alloc: Global,
     tables: &mut T,
     run: &RunContext,
@@ -157,8 +157,8 @@ pub fn db_store_i64<T: Tables>(
     put_row(alloc, tables, iters, run, key, payer, id, bytes)
 }
 
-// The table and the primary key of the receiver's own live row with this number.
-fn own_row(run: &RunContext, iters: &Iters, it: i32) -> Result<(TableKey, u64), DbFault>
+/// The table and the primary key of the receiver's own live row with this number.
+pub fn own_row(run: &RunContext, iters: &Iters, it: i32) -> Result<(TableKey, u64), DbFault>
     ensures { result ≡ own_row primary_kind run.now it iters.now }
 {
     let (key, primary) = live_row(iters, it)?;
