@@ -11,7 +11,8 @@ use Rattle.ante_pack.specs.declared.names.Name.{Name}
 use Rattle.ante_pack.specs.declared.authority.Level.{Level}
 use Rattle.ante_state.specs.Orders.{name_order, level_order}
 use Rattle.ante_state.specs.declared.objects.PermissionRow.{PermissionRow}
-use Rattle.ante_types.specs.World.{World, used_by_all, account_bills, permission_bills, link_bills, table_bills, row_bills}
+use Rattle.ante_state.specs.Billing.{index64_size, index128_size, index256_size}
+use Rattle.ante_types.specs.World.{World, used_by_all, account_bills, permission_bills, link_bills, table_bills, row_bills, index_bills}
 use Rattle.ante_calls.specs.Accounts.{same_name, permission_at}
 use Rattle.ante_execution.specs.Authorities.{parent_of, is_within, is_or_is_above}
 use Rattle.ante_authz.proofs.Marked.{if_onward, within, Walked, begun, stepped, marking, never, ended, went_round, arrived, exhausted}
@@ -114,7 +115,20 @@ few_permissions w =
     let c = flat_map link_bills w.links in
     let d = flat_map table_bills w.tables in
     let e = flat_map row_bills w.rows in
-    omega (arith, permissions_billed w.permissions, sum_by-append g a b, sum_by-append g (a ++ b) c, sum_by-append g (a ++ b ++ c) d, sum_by-append g (a ++ b ++ c ++ d) e)
+    let f = flat_map (index_bills index64_size) w.index64 in
+    let h = flat_map (index_bills index128_size) w.index128 in
+    let k = flat_map (index_bills index256_size) w.index256 in
+    omega (
+      arith,
+      permissions_billed w.permissions,
+      sum_by-append g a b,
+      sum_by-append g (a ++ b) c,
+      sum_by-append g (a ++ b ++ c) d,
+      sum_by-append g (a ++ b ++ c ++ d) e,
+      sum_by-append g (a ++ b ++ c ++ d ++ e) f,
+      sum_by-append g (a ++ b ++ c ++ d ++ e ++ f) h,
+      sum_by-append g (a ++ b ++ c ++ d ++ e ++ f ++ h) k,
+    )
 
 pub one_name : (a b : Name) → same_name a b ≡ true → a ≡ b
 one_name a b h = let e : a.0 ≡ b.0 = grind arith in λ i. record { 0 = e i }

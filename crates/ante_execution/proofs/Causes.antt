@@ -38,6 +38,9 @@ world = record {
   references = [];
   tables = [];
   rows = [];
+  index64 = [];
+  index128 = [];
+  index256 = [];
 }
 
 abbrev pub scene : Scene

@@ -3,7 +3,6 @@ use Rattle.std.proofs.Common.{◌≡◌, refl, ℕ, false, List, [], ◌∷◌, 
 use Rattle.std.specs.Prelude.{codes}
 use Rattle.ante_pack.specs.Names.{name_number, number_of}
 use Rattle.ante_types.specs.declared.failure.Failure.TheVariants as failure
-use Rattle.ante_store.specs.declared.change.Change.TheVariants as change
 use Rattle.ante_wtree.specs.declared.instructions.PlainInstr.TheVariants as plain
 use Rattle.ante_wtree.specs.declared.instructions.ValueKind.TheVariants.{I64}
 use Rattle.ante_wtree.specs.declared.modules.ExportKind.TheVariants as export
@@ -12,26 +11,12 @@ use Rattle.ante_wtree.specs.Limits.{most_frames}
 use Rattle.ante_wtree.specs.Trees.{Tree}
 use Rattle.ante_wmeaning.specs.declared.ends.TrapKind.TheVariants as trap
 use Rattle.ante_calls.specs.Calls.{trapped}
-use Rattle.ante_calls.specs.IndexCalls.{IndexRows}
-use Rattle.ante_calls.specs.Numbers.{Indexes}
 use Rattle.ante_calls.specs.Views.{Seen}
 use Rattle.ante_execution.specs.Actions.{first_seen}
 use Rattle.ante_execution.specs.Codes.{trap_name, run_by}
 use Rattle.ante_execution.specs.Runs.{Ran}
 use Rattle.ante_execution.proofs.Causes.{action, world, scene}
 use Rattle.ante_execution.proofs.Weights.{named}
-
--- a state without rows of secondary indexes
-abbrev no_rows : (K : Type 0) → IndexRows K
-no_rows K = record {
-  rows = λ table w. [];
-  storing = λ table primary payer key. change.RemoveRow table primary;
-  updating = λ table primary payer key. change.RemoveRow table primary;
-  removing = λ table primary. change.RemoveRow table primary;
-}
-
-abbrev indexes : Indexes
-indexes = record { index64 = no_rows _; index128 = no_rows _; index256 = no_rows _ }
 
 -- a module with a memory of two pages, whose `apply` has this body
 abbrev tree : Expression → Tree
@@ -56,7 +41,7 @@ abbrev seen : Seen
 seen = first_seen scene (action 1) (record { receiver = named 1; notified = false; depth = 0; sender = named 0; creator = 0 }) [] world
 
 abbrev runs : Expression → (left : ℕ) → Ran
-runs body left = run_by indexes (Ok (tree body)) (1 ∷ 1 ∷ 0 ∷ []) seen left
+runs body left = run_by (Ok (tree body)) (1 ∷ 1 ∷ 0 ∷ []) seen left
 
 abbrev shown : Ran → ℕ × ℕ
 shown r = (r.left, r.looks)

@@ -6,7 +6,7 @@ use Rattle.ante_types.specs.declared.chain.GenesisAccount.{GenesisAccount}
 use Rattle.ante_types.specs.Genesis.{eosio, builtin_authority}
 use Rattle.ante_execution.specs.declared.ends.GenesisFault.TheVariants as fault
 use Rattle.ante_execution.specs.GenesisRules.{genesis_fault}
-use Rattle.ante_execution.proofs.Natives.{bob, no_codes}
+use Rattle.ante_execution.proofs.NativeExamples.{bob, no_codes}
 
 abbrev account : GenesisAccount
 account = record { name = eosio; owner = builtin_authority; active = builtin_authority; code = [] }

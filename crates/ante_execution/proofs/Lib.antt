@@ -1,5 +1,5 @@
 mod Weights
-mod Natives
+mod NativeExamples
 mod Founded
 mod Causes
 mod CodeRuns

@@ -5,7 +5,7 @@ use Rattle.ante_wmem.specs.Linear.{LinearMemory}
 use Rattle.ante_wmem.specs.HostCalls.{Reply, Outcome, value, nothing, exit, refused, step_limit}
 use Rattle.ante_wtree.specs.declared.instructions.ValueKind.{ValueKind}
 use Rattle.ante_wtree.specs.Intrinsics.{type_at}
-use Rattle.ante_calls.specs.Numbers.{Indexes, intrinsic_at, intrinsic}
+use Rattle.ante_calls.specs.Numbers.{intrinsic_at, intrinsic}
 use Rattle.ante_calls.specs.Views.{Seen}
 use Rattle.ante_wtree.specs.Replies.{IsReplyOf, AnswersTyped}
 use Rattle.ante_calls.proofs.Replies.{mapped_typed, typed_by_number}
@@ -31,13 +31,13 @@ checked_typed : (r : Option ValueKind) (b : Bool) (o : Outcome Seen Failure) →
 checked_typed r true o h = sent_typed r o.reply h
 checked_typed r false o h = h
 
-pub call_typed : (indexes : Indexes) (number : ℕ) (params : List ValueKind) (r : Option ValueKind) (s : Seen) (args : List ℕ) (m : LinearMemory) (left : ℕ) →
-    type_at number ≡ Some (params, r) → IsReplyOf r (call indexes s number args m left).reply
+pub call_typed : (number : ℕ) (params : List ValueKind) (r : Option ValueKind) (s : Seen) (args : List ℕ) (m : LinearMemory) (left : ℕ) →
+    type_at number ≡ Some (params, r) → IsReplyOf r (call s number args m left).reply
 unfolding call
-call_typed indexes number params r s args m left e =
-    checked_typed r (is_send_inline (intrinsic_at number)) (intrinsic indexes (intrinsic_at number) s args m left) (typed_by_number indexes number params r s args m left e)
+call_typed number params r s args m left e =
+    checked_typed r (is_send_inline (intrinsic_at number)) (intrinsic (intrinsic_at number) s args m left) (typed_by_number number params r s args m left e)
 
 -- so a run may ask for typed replies of the host
-pub host_typed : (indexes : Indexes) → AnswersTyped (λ h number args left. Allows h left) (host_call indexes)
-host_typed indexes number params result args h m left e fit allowed =
-    mapped_typed result (over h) (call indexes h.seen number args m left).reply (call_typed indexes number params result h.seen args m left e)
+pub host_typed : AnswersTyped (λ h number args left. Allows h left) host_call
+host_typed number params result args h m left e fit allowed =
+    mapped_typed result (over h) (call h.seen number args m left).reply (call_typed number params result h.seen args m left e)

@@ -47,6 +47,9 @@ world = record {
   references = [];
   tables = [];
   rows = [];
+  index64 = [];
+  index128 = [];
+  index256 = [];
 }
 
 one_key : satisfied world ((1 ∷ []) ∷ []) None (level 1 active) 512 ≡ (weighed.No, 510)

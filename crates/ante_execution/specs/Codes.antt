@@ -18,7 +18,6 @@ use Rattle.ante_wmeaning.specs.Configurations.{State, Outcome, Normal, Branch, R
 use Rattle.ante_wmeaning.specs.Environment.{undisturbed}
 use Rattle.ante_wmeaning.specs.Invocation.{run_of}
 use Rattle.ante_calls.specs.Calls.{trapped}
-use Rattle.ante_calls.specs.Numbers.{Indexes}
 use Rattle.ante_calls.specs.Views.{Seen}
 use Rattle.ante_execution.specs.Hosts.{call}
 use Rattle.ante_execution.specs.Runs.{Codes, Ran}
@@ -88,13 +87,13 @@ abbrev pub pages_of : Result Tree Fault → ℕ
 pages_of (Ok m) = least_pages m.memory
 pages_of (Err f) = 0
 
-abbrev pub run_by : Indexes → Result Tree Fault → (args : List ℕ) → Seen → (left : ℕ) → Ran
-run_by indexes (Ok m) args s left = of_outcome s (run_of (call indexes) m args s left undisturbed)
-run_by indexes (Err f) args s left = never s
+abbrev pub run_by : Result Tree Fault → (args : List ℕ) → Seen → (left : ℕ) → Ran
+run_by (Ok m) args s left = of_outcome s (run_of call m args s left undisturbed)
+run_by (Err f) args s left = never s
 
-unfoldable pub codes_with : Indexes → (accepts : List ℕ → Bool) → Codes
-codes_with indexes accepts = record {
+unfoldable pub codes_with : (accepts : List ℕ → Bool) → Codes
+codes_with accepts = record {
   accepts = accepts;
   pages = λ code. pages_of (module_at code);
-  runs = λ code args s left. run_by indexes (module_at code) args s left;
+  runs = λ code args s left. run_by (module_at code) args s left;
 }

@@ -8,7 +8,7 @@ use Rattle.ante_wmeaning.specs.Likeness.{SameReply, ReplyAlike}
 use Rattle.ante_calls.specs.ActionData.{IsPacked}
 use Rattle.ante_calls.specs.Calls.{map_reply}
 use Rattle.ante_calls.specs.Keeping.{Leaving, Fine, Grows, Goes, intrinsic_fine}
-use Rattle.ante_calls.specs.Numbers.{Indexes, intrinsic_at, intrinsic}
+use Rattle.ante_calls.specs.Numbers.{intrinsic_at, intrinsic}
 use Rattle.ante_calls.specs.Views.{Seen, is_writing}
 use Rattle.ante_execution.specs.Hosts.{sent_refusal, unless, sent_reply, is_send_inline, checked, call, HostView, over, host_call, HasRoom, Allows, Shows}
 
@@ -63,18 +63,18 @@ fine_checked : (s : Seen) (b : Bool) (left : ℕ) (o : Outcome Seen Failure) →
 fine_checked s true left o h = record { falls = h.falls; reply = leaving_sent s o.reply h.reply }
 fine_checked s false left o h = h
 
-pub call_fine : (indexes : Indexes) (s : Seen) (number : ℕ) (args : List ℕ) (m : LinearMemory) (left : ℕ) →
-    Fine (Goes s) left (call indexes s number args m left)
+pub call_fine : (s : Seen) (number : ℕ) (args : List ℕ) (m : LinearMemory) (left : ℕ) →
+    Fine (Goes s) left (call s number args m left)
 unfolding call
-call_fine indexes s number args m left =
-    fine_checked s (is_send_inline (intrinsic_at number)) left (intrinsic indexes (intrinsic_at number) s args m left)
-    (intrinsic_fine s indexes (intrinsic_at number) args m left)
+call_fine s number args m left =
+    fine_checked s (is_send_inline (intrinsic_at number)) left (intrinsic (intrinsic_at number) s args m left)
+    (intrinsic_fine s (intrinsic_at number) args m left)
 
 -- ---- the host
 
-pub host_falls : (indexes : Indexes) (h : HostView) (number : ℕ) (args : List ℕ) (m : LinearMemory) (left : ℕ) →
-    (host_call indexes h number args m left).left ≤ left
-host_falls indexes h number args m left = (call_fine indexes h.seen number args m left).falls
+pub host_falls : (h : HostView) (number : ℕ) (args : List ℕ) (m : LinearMemory) (left : ℕ) →
+    (host_call h number args m left).left ≤ left
+host_falls h number args m left = (call_fine h.seen number args m left).falls
 
 keeps_reply : (h : HostView) (left after : ℕ) (reply : Reply Seen Failure) → after ≤ left → Leaving (Goes h.seen) reply →
     Keeps (λ g f args n. Allows g n) h left (map_reply (over h) reply) after
@@ -84,10 +84,10 @@ keeps_reply h left after (exit s m) le g = tt
 keeps_reply h left after (refused f) le g = tt
 keeps_reply h left after step_limit le g = tt
 
-pub host_keeps : (indexes : Indexes) (h : HostView) (number : ℕ) (args : List ℕ) (m : LinearMemory) (left : ℕ) → Allows h left →
-    Keeps (λ g f args n. Allows g n) h left (host_call indexes h number args m left).reply (host_call indexes h number args m left).left
-host_keeps indexes h number args m left a = let fine = call_fine indexes h.seen number args m left in
-    keeps_reply h left (call indexes h.seen number args m left).left (call indexes h.seen number args m left).reply fine.falls fine.reply
+pub host_keeps : (h : HostView) (number : ℕ) (args : List ℕ) (m : LinearMemory) (left : ℕ) → Allows h left →
+    Keeps (λ g f args n. Allows g n) h left (host_call h number args m left).reply (host_call h number args m left).left
+host_keeps h number args m left a = let fine = call_fine h.seen number args m left in
+    keeps_reply h left (call h.seen number args m left).left (call h.seen number args m left).reply fine.falls fine.reply
 
 -- ---- likeness: with it a run is a function of what it sees
 
@@ -99,8 +99,8 @@ alike_reply before given (exit s m) e d = (s, (refl, e, d), refl)
 alike_reply before given (refused f) e d = refl
 alike_reply before given step_limit e d = refl
 
-pub hosts_alike : (indexes : Indexes) (before : HostView) → ReplyAlike (Shows before) (host_call indexes) (call indexes)
-hosts_alike indexes before h s number args m left shows =
-    subst (λ (x : Seen). SameReply (Shows before) (host_call indexes h number args m left).reply (call indexes x number args m left).reply
-    × ((host_call indexes h number args m left).left ≡ (call indexes x number args m left).left)) shows.0
-    (alike_reply before h (call indexes h.seen number args m left).reply shows.1 shows.2, refl)
+pub hosts_alike : (before : HostView) → ReplyAlike (Shows before) host_call call
+hosts_alike before h s number args m left shows =
+    subst (λ (x : Seen). SameReply (Shows before) (host_call h number args m left).reply (call x number args m left).reply
+    × ((host_call h number args m left).left ≡ (call x number args m left).left)) shows.0
+    (alike_reply before h (call h.seen number args m left).reply shows.1 shows.2, refl)

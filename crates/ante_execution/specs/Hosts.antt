@@ -13,7 +13,7 @@ use Rattle.ante_calls.specs.Accounts.{same_name}
 use Rattle.ante_calls.specs.declared.calls.Intrinsic.{Intrinsic}
 use Rattle.ante_calls.specs.declared.calls.Intrinsic.TheVariants as group
 use Rattle.ante_calls.specs.declared.calls.SysCall.TheVariants as sys
-use Rattle.ante_calls.specs.Numbers.{Indexes, intrinsic_at, intrinsic}
+use Rattle.ante_calls.specs.Numbers.{intrinsic_at, intrinsic}
 use Rattle.ante_calls.specs.Calls.{map_outcome}
 use Rattle.ante_calls.specs.ActionData.{IsPacked}
 use Rattle.ante_calls.specs.Views.{Seen, Lists, Base, ReadyFor, said}
@@ -59,8 +59,8 @@ checked false o = o
 -- ---- the call
 
 -- every call of a run, as a pure function of what the run sees
-unfoldable pub call : Indexes → HostMeaning Seen Failure
-call indexes s number args m left = checked (is_send_inline (intrinsic_at number)) (intrinsic indexes (intrinsic_at number) s args m left)
+unfoldable pub call : HostMeaning Seen Failure
+call s number args m left = checked (is_send_inline (intrinsic_at number)) (intrinsic (intrinsic_at number) s args m left)
 
 -- ---- the host over the sessions beneath
 
@@ -73,8 +73,8 @@ pub record HostView : Type 0 where
 abbrev pub over : HostView → Seen → HostView
 over h s = record { seen = s; base = h.base; holder = h.holder }
 
-abbrev pub host_call : Indexes → HostMeaning HostView Failure
-host_call indexes h number args m left = map_outcome (over h) (call indexes h.seen number args m left)
+abbrev pub host_call : HostMeaning HostView Failure
+host_call h number args m left = map_outcome (over h) (call h.seen number args m left)
 
 -- the store, of which a run sees the newest state
 abbrev pub store_of : HostView → Stack World

@@ -1,5 +1,10 @@
+ghost use Rattle.std.specs.Prelude.{◌≡◌};
+ghost use Rattle.ante_execution.specs.declared.ends.GenesisFault.TheVariants as genesis;
+ghost use Rattle.ante_execution.specs.declared.ends.NativeFault.TheVariants as native;
+
 use ante_pack::{Level, Name};
 use ante_types::Failure;
+use std::alloc::AllocError;
 use thiserror::Error;
 
 /// Why an action may not be sent.
@@ -28,6 +33,14 @@ pub enum NativeFault {
     OutOfMemory,
     #[error("native action failed")]
     Failed(Failure),
+}
+
+impl From<AllocError> for NativeFault {
+    ghost from_gives = { λ _ e. e ≡ native.OutOfMemory };
+
+    fn from(_: AllocError) -> NativeFault {
+        NativeFault::OutOfMemory
+    }
 }
 
 /// Why an action ended before it was done.
@@ -62,4 +75,12 @@ pub enum GenesisFault {
     BadAuthority { account: Name },
     #[error("bad code")]
     BadCode { account: Name },
+}
+
+impl From<AllocError> for GenesisFault {
+    ghost from_gives = { λ _ e. e ≡ genesis.OutOfMemory };
+
+    fn from(_: AllocError) -> GenesisFault {
+        GenesisFault::OutOfMemory
+    }
 }

@@ -5,6 +5,8 @@
 
 mod ends;
 mod kinds;
+mod natives;
 
 pub use ends::{ApplyEnd, AuthFault, GenesisFault, NativeFault};
 pub use kinds::{NativeAction, Weighed};
+pub use natives::{ACTIVE, EOSIO_ANY, EOSIO_CODE, OWNER, native_named, native_of};

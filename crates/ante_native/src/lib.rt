@@ -2,7 +2,19 @@
 #![tactic(auto)]
 
 mod action;
+mod authority;
+mod codes;
+mod deleteauth;
 mod genesis;
+mod linkauth;
+mod lookups;
+mod newaccount;
+mod parts;
+mod rising;
+mod setabi;
+mod setcode;
+mod unlinkauth;
+mod updateauth;
 
 pub use action::native;
 pub use genesis::check_genesis;

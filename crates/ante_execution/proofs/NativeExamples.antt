@@ -38,6 +38,9 @@ world = record {
   references = [];
   tables = [];
   rows = [];
+  index64 = [];
+  index128 = [];
+  index256 = [];
 }
 
 used_at_first : used world eosio ≡ 3446
