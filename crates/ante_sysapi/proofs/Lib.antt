@@ -1,1 +1,4 @@
+mod Cut
+mod FirstByte
 mod Numbered
+mod Paid

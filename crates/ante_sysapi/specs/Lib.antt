@@ -1,2 +1,3 @@
 pub mod Answers
+pub mod Quotas
 pub mod Tables

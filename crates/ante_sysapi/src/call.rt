@@ -9,7 +9,10 @@ ghost use Rattle.ante_calls.specs.Views.{base_of, ReadyFor, said};
 ghost use Rattle.ante_sysapi.specs.Answers.{Answers, view};
 
 use crate::numbers::call_at;
-use crate::{accounts, action, authorization, control, hashes, moving};
+use crate::{
+    accounts, action, authorization, console, control, hashes, limits, moving, sending,
+    wide_integers,
+};
 use ante_calls::SysCall;
 use ante_store::Tables;
 use ante_types::{Failure, RunContext};
@@ -38,6 +41,7 @@ fn answer<T: Tables>(
     match call {
         SysCall::Abort => HostAnswer::Refused(Failure::Abort),
         SysCall::Exit => HostAnswer::Exit,
+        SysCall::Assert => control::eosio_assert(args, memory, alloc, left),
         SysCall::AssertMessage => control::eosio_assert_message(args, memory, alloc, left),
         SysCall::AssertCode => control::eosio_assert_code(args),
         SysCall::CurrentReceiver => action::current_receiver(run),
@@ -56,13 +60,35 @@ fn answer<T: Tables>(
         SysCall::HasAuth => authorization::has_auth(args, run),
         SysCall::IsAccount => accounts::is_account_call(args, run, tables),
         SysCall::IsPrivileged => accounts::is_privileged_call(args, run, tables),
+        SysCall::RequireRecipient => accounts::require_recipient(args, run, tables, alloc),
+        SysCall::SendInline => sending::send_inline(args, memory, run, tables, alloc, left),
+        SysCall::Prints => console::prints(args, memory, run, alloc, left),
+        SysCall::PrintsL => console::prints_l(args, memory, run, alloc, left),
+        SysCall::PrintHex => console::printhex(args, memory, run, alloc, left),
+        SysCall::PrintI => console::printi(args, run, alloc),
+        SysCall::PrintUi => console::printui(args, run, alloc),
+        SysCall::PrintN => console::printn(args, run, alloc),
+        SysCall::PrintI128 => console::printi128(args, memory, run, alloc),
+        SysCall::PrintUi128 => console::printui128(args, memory, run, alloc),
         SysCall::Memcpy => moving::memcpy(args, memory, alloc, left),
         SysCall::Memmove => moving::memmove(args, memory, alloc, left),
         SysCall::Memset => moving::memset(args, memory, alloc, left),
         SysCall::Memcmp => moving::memcmp(args, memory, left),
         SysCall::Sha256 => hashes::sha256_call(args, memory, left),
         SysCall::AssertSha256 => hashes::assert_sha256(args, memory, alloc, left),
-        _ => HostAnswer::OutOfMemory,
+        SysCall::Multi3 => wide_integers::multi3(args, memory),
+        SysCall::DivTi3 => wide_integers::divti3(args, memory, alloc),
+        SysCall::UdivTi3 => wide_integers::udivti3(args, memory, alloc),
+        SysCall::ModTi3 => wide_integers::modti3(args, memory, alloc),
+        SysCall::UmodTi3 => wide_integers::umodti3(args, memory, alloc),
+        SysCall::AshlTi3 => wide_integers::shlti3(args, memory),
+        SysCall::AshrTi3 => wide_integers::ashrti3(args, memory),
+        SysCall::LshlTi3 => wide_integers::shlti3(args, memory),
+        SysCall::LshrTi3 => wide_integers::lshrti3(args, memory),
+        SysCall::SetResourceLimits => limits::set_resource_limits(args, run, tables, alloc),
+        SysCall::SetActionReturnValue => {
+            action::set_action_return_value(args, memory, run, alloc, left)
+        }
     }
 }
 
