@@ -24,7 +24,7 @@ pub made_answers : (misplaced : DbFault) (c : Change) (result : Result (Unit {0}
 made_answers misplaced c (Ok d) old new i h = ap (λ r. then_do r (done i)) h
 made_answers misplaced c (Err f) old new i h = (fault_goes_on f (make misplaced c old) (done i) h.0, λ k. record { world = h.1 k; iters = i })
 
-writes : (m : Mode) (answer : Answer (Unit {0})) → is_writing m ≡ true → writing m answer ≡ answer
+pub writes : (m : Mode) (answer : Answer (Unit {0})) → is_writing m ≡ true → writing m answer ≡ answer
 writes mode.Writing answer h = refl
 writes mode.Reading answer h = absurd (true≢false (sym h))
 

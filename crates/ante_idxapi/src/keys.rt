@@ -18,12 +18,15 @@ pub trait Indexed: SecKey {
     fn rows_of(store: &Store) -> &SecIndex<Self>
         ensures { (table : TableKey) → index_of table result.now.top ≡ index.rows table store.now.top };
 
-    /// The changes that store and update such a row.
+    /// The changes that store, update and remove such a row.
     fn storing(table: TableKey, primary: u64, payer: Name, key: Self) -> Change
         ensures { result ≡ index.storing table primary payer key };
 
     fn updating(table: TableKey, primary: u64, payer: Name, key: Self) -> Change
         ensures { result ≡ index.updating table primary payer key };
+
+    fn removing(table: TableKey, primary: u64) -> Change
+        ensures { result ≡ index.removing table primary };
 
     /// Calls order such keys as they are ordered. The proof is all that this is for.
     fn is_ordered()
@@ -59,6 +62,10 @@ impl Indexed for u64 {
         }
     }
 
+    fn removing(table: TableKey, primary: u64) -> Change {
+        Change::RemoveIndex64 { table, primary }
+    }
+
     fn is_ordered() {}
 }
 
@@ -91,6 +98,10 @@ impl Indexed for u128 {
         }
     }
 
+    fn removing(table: TableKey, primary: u64) -> Change {
+        Change::RemoveIndex128 { table, primary }
+    }
+
     fn is_ordered() {}
 }
 
@@ -121,6 +132,10 @@ impl Indexed for Key256 {
             primary,
             payer,
         }
+    }
+
+    fn removing(table: TableKey, primary: u64) -> Change {
+        Change::RemoveIndex256 { table, primary }
     }
 
     fn is_ordered() {}

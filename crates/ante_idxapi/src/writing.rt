@@ -2,7 +2,7 @@
 ghost use Rattle.std.specs.Prelude.{◌≡◌, ◌+◌, ◌<◌, ◌^◌, length, true};
 ghost use Rattle.ante_calls.specs.IndexCalls.{index_kind};
 ghost use Rattle.ante_calls.specs.RowAnswers.{Gives};
-ghost use Rattle.ante_calls.specs.Rows.{store, update, store_refusal, update_refusal, new_payer};
+ghost use Rattle.ante_calls.specs.Rows.{store, update, remove, store_refusal, update_refusal, new_payer};
 ghost use Rattle.ante_calls.specs.Views.{base_of, ReadyFor};
 ghost use Rattle.ante_idxapi.specs.Stored.{stores};
 
@@ -164,4 +164,33 @@ pub fn db_idx_update<T: Tables, K: Indexed>(
     let payer = new_payer::<K>(payer, row);
     let change = K::updating(at, primary, payer, key);
     make(alloc, tables, run, change, misplaced)
+}
+
+/// The receiver's own row with this number goes, and its number with it.
+pub fn db_idx_remove<T: Tables, K: Indexed>(
+    alloc: Global,
+    tables: &mut T,
+    iters: &mut Iters,
+    run: &RunContext,
+    it: i32,
+) -> Result<(), DbFault>
+    requires ready { ReadyFor run.now.mode (T.stack tables.old) (T.writing tables.old) }
+    ensures answer { Gives (remove (index_kind K.form K.index) run.now it) result (T.stack tables.old) (T.stack tables.new) iters.old iters.new }
+    ensures base { base_of (T.stack tables.new) (T.writing tables.new) (T.lent tables.new) ≡
+        base_of (T.stack tables.old) (T.writing tables.old) (T.lent tables.old) }
+{
+    if !tables.writes() {
+        return Err(DbFault::WriteRefused);
+    }
+    let (at, primary) = own_row(run, iters, it)?;
+    let change = K::removing(at, primary);
+    make(
+        alloc,
+        tables,
+        run,
+        change,
+        DbFault::BadIterator { value: it },
+    )?;
+    iters.removed(it);
+    Ok(())
 }

@@ -1,4 +1,4 @@
-use Rattle.std.proofs.Common.{rules, ◌≡◌, true, w32, of_z, to_z, to_z-of_z, refl, sym, ap, ◌∙◌, subst}
+use Rattle.std.proofs.Common.{rules, ◌≡◌, true, w32, of_z, to_z, to_z-of_z, refl, sym, ◌∙◌, subst}
 use Rattle.ante_calls.specs.IndexCalls.{index_kind}
 use Rattle.ante_calls.specs.RowAnswers.{view_of}
 use Rattle.ante_calls.specs.declared.faults.DbFault.TheVariants as fault
