@@ -5,6 +5,7 @@ ghost use Rattle.ante_calls.specs.Views.{base_of, ReadyFor};
 ghost use Rattle.ante_rowcalls.specs.RowCalls.{AnswersRow};
 
 use crate::keys::IndexKey;
+use crate::{looking, walking, writing};
 use ante_calls::IndexCall;
 use ante_itercache::Iters;
 use ante_store::Tables;
@@ -32,5 +33,24 @@ pub fn index_call<T: Tables, K: IndexKey>(
     ensures base { base_of (T.stack tables.new) (T.writing tables.new) (T.lent tables.new) ≡
         base_of (T.stack tables.old) (T.writing tables.old) (T.lent tables.old) }
 {
-    HostAnswer::OutOfMemory
+    match call {
+        IndexCall::Store => writing::store::<T, K>(args, memory, run, iters, tables, alloc),
+        IndexCall::Update => writing::update::<T, K>(args, memory, run, iters, tables, alloc),
+        IndexCall::Remove => writing::remove::<T, K>(args, run, iters, tables, alloc),
+        IndexCall::Next => walking::next::<T, K>(args, memory, run, iters, tables, alloc),
+        IndexCall::Previous => walking::previous::<T, K>(args, memory, run, iters, tables, alloc),
+        IndexCall::FindPrimary => {
+            looking::find_primary::<T, K>(args, memory, run, iters, tables, alloc)
+        }
+        IndexCall::FindSecondary => {
+            looking::find_secondary::<T, K>(args, memory, run, iters, tables, alloc)
+        }
+        IndexCall::LowerBound => {
+            looking::lower_bound::<T, K>(args, memory, run, iters, tables, alloc)
+        }
+        IndexCall::UpperBound => {
+            looking::upper_bound::<T, K>(args, memory, run, iters, tables, alloc)
+        }
+        IndexCall::End => looking::end::<T, K>(args, run, iters, tables, alloc),
+    }
 }

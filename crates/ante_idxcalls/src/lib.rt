@@ -3,7 +3,12 @@
 #![tactic(auto)]
 
 mod call;
+mod key_args;
 mod keys;
+mod looking;
+mod replies;
+mod walking;
+mod writing;
 
 pub use call::index_call;
 pub use keys::IndexKey;

@@ -8,3 +8,4 @@ mod walking;
 mod writing;
 
 pub use call::row_call;
+pub use replies::{found, neighbour, refused, word_of};

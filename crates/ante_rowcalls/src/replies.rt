@@ -15,7 +15,7 @@ use ante_wmem::{HostAnswer, Memory};
 use std::alloc::Global;
 
 /// An iterator as an i32.
-pub(crate) fn word_of(it: i32) -> u64
+pub fn word_of(it: i32) -> u64
     ensures { result ≡ word it }
 {
     it.cast_unsigned() as u64
@@ -32,7 +32,7 @@ fn write_refused(alloc: Global, name: &[u8]) -> HostAnswer<Failure>
 }
 
 /// The failure of a call of this name.
-pub(crate) fn refused(alloc: Global, name: &[u8], fault: DbFault) -> HostAnswer<Failure>
+pub fn refused(alloc: Global, name: &[u8], fault: DbFault) -> HostAnswer<Failure>
     requires { IsTrue (is_label name.now) }
     ensures { ShowsFault name.now fault result }
 {
@@ -50,7 +50,7 @@ pub(crate) fn refused(alloc: Global, name: &[u8], fault: DbFault) -> HostAnswer<
 }
 
 /// What a search found. It is never refused.
-pub(crate) fn found(answer: Result<i32, DbFault>) -> HostAnswer<Failure>
+pub fn found(answer: Result<i32, DbFault>) -> HostAnswer<Failure>
     ensures { ShowsFound answer result }
 {
     match answer {
@@ -60,7 +60,7 @@ pub(crate) fn found(answer: Result<i32, DbFault>) -> HostAnswer<Failure>
 }
 
 /// A neighbour's iterator, with its primary key at this address of the memory, where it has one.
-pub(crate) fn neighbour(
+pub fn neighbour(
     memory: &mut Memory,
     at: u32,
     met: (i32, Option<u64>),
