@@ -14,19 +14,20 @@ use Rattle.ante_calls.specs.Rows.{Answer}
 use Rattle.ante_calls.specs.Views.{RowView}
 use Rattle.ante_rowcalls.specs.RowCalls.{AnswersRow}
 
--- ---- the table that three arguments name
+-- ---- what a search found, by the arguments that name its table
 
 pub at_table : (P : TableKey → Type 0) (args : List ℕ) (code scope table : Name) → code ≡ name_arg args 0 → scope ≡ name_arg args 1 → table ≡ name_arg args 2 →
     P (table_of code scope table) → P (table_arg args)
 at_table P args code scope table a b c p =
     subst P (ap (λ x. table_of x scope table) a ∙ ap (λ x. table_of (name_arg args 0) x table) b ∙ ap (λ x. table_of (name_arg args 0) (name_arg args 1) x) c) p
 
--- ---- what was found
-
-pub found_shown : {A : Type 0} (go : A → RowView → Reply RowView Failure) (answer : Answer A) (found : A) (result : HostAnswer Failure) (v w : RowView)
-    (m : LinearMemory) (left : ℕ) → answer ≡ Ok (found, w) → AnswersRow (replies (go found w) left) result v w m left →
-    AnswersRow (replies (answered [] answer go) left) result v w m left
-found_shown go answer found result v w m left is h = subst (λ x. AnswersRow (replies (answered [] x go) left) result v w m left) (sym is) h
+pub sought_shown : {A : Type 0} (go : A → RowView → Reply RowView Failure) (search : TableKey → Answer A) (args : List ℕ) (code scope table : Name) (found : A)
+    (result : HostAnswer Failure) (v w : RowView) (m : LinearMemory) (left : ℕ) →
+    code ≡ name_arg args 0 → scope ≡ name_arg args 1 → table ≡ name_arg args 2 → search (table_of code scope table) ≡ Ok (found, w) →
+    AnswersRow (replies (go found w) left) result v w m left → AnswersRow (replies (answered [] (search (table_arg args)) go) left) result v w m left
+sought_shown go search args code scope table found result v w m left a b c is h =
+    at_table (λ t. AnswersRow (replies (answered [] (search t) go) left) result v w m left) args code scope table a b c
+    (subst (λ x. AnswersRow (replies (answered [] x go) left) result v w m left) (sym is) h)
 
 -- the bytes of the key that was found
 pub key_bytes_found : {K : Type 0} (bytes : K → List ℕ) (found : Option (K × ℕ)) →

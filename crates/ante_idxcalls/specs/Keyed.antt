@@ -1,15 +1,15 @@
 -- How a call comes to the key that its arguments name, and what it replies then.
-use Rattle.std.specs.Prelude.{◌≡◌, ℕ, ℤ, List, codes, Option, Result, Ok, Err}
+use Rattle.std.specs.Prelude.{◌≡◌, ℕ, ℤ, List, codes, Option, option_map, Result, Ok, Err}
 use Rattle.ante_types.specs.declared.context.Mode.{Mode}
 use Rattle.ante_types.specs.declared.context.RunContext.{RunContext}
 use Rattle.ante_types.specs.declared.failure.Failure.{Failure}
 use Rattle.ante_wmem.specs.Linear.{LinearMemory}
 use Rattle.ante_wmem.specs.declared.host.HostAnswer.{HostAnswer}
-use Rattle.ante_wmem.specs.HostCalls.{Reply, Outcome}
-use Rattle.ante_calls.specs.Calls.{arg, arg32, signed_arg, name_arg, bytes_from, replies, reading, writing, unless}
+use Rattle.ante_wmem.specs.HostCalls.{Reply, Outcome, value}
+use Rattle.ante_calls.specs.Calls.{arg, arg32, signed_arg, name_arg, bytes_from, replies, reading, writing, unless, word}
 use Rattle.ante_calls.specs.IndexCalls.{KeyForm, IndexRows, index_kind, key_bytes, key_refusal, after_key, name_of, shows_both}
 use Rattle.ante_calls.specs.Rows.{store, update}
-use Rattle.ante_calls.specs.RowReplies.{answered, iterator_alone, no_answer}
+use Rattle.ante_calls.specs.RowReplies.{answered, iterator_alone, no_answer, with_bytes}
 use Rattle.ante_calls.specs.Views.{RowView}
 use Rattle.ante_rowcalls.specs.RowCalls.{AnswersRow}
 
@@ -42,6 +42,10 @@ module _ {K : Type 0} where
   abbrev pub updated_by : KeyForm K → IndexRows K → RunContext → (args : List ℕ) → LinearMemory → RowView → K → Reply RowView Failure
   updated_by form index run args m v key = answered (name_of form index (codes "update"))
       (update (index_kind form index) run (signed_arg args 0) (name_arg args 1) key v) (no_answer m)
+
+  -- an iterator, with the key of its row written to this address
+  abbrev pub iterator_and_key : KeyForm K → (at : ℕ) → LinearMemory → ℤ × Option K → RowView → Reply RowView Failure
+  iterator_and_key form at m a v = value (word a.0) v (with_bytes (option_map (λ key. form.bytes key) a.1) at m)
 
   -- what is shown of the row that a bound finds
   abbrev pub shows_bound : KeyForm K → IndexRows K → (args : List ℕ) → LinearMemory → (ℤ × Option (K × ℕ)) × RowView → Reply RowView Failure

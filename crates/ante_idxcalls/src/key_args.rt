@@ -15,10 +15,10 @@ use ante_wmem::{HostAnswer, Memory};
 use std::alloc::Global;
 
 /// The place of the key's address in a search.
-const KEY: usize = 3;
+pub(crate) const KEY: usize = 3;
 
 /// The bytes of a primary key.
-const PRIMARY_SIZE: u32 = 8;
+pub(crate) const PRIMARY_SIZE: u32 = 8;
 
 /// The primary key that a search passes behind the other key.
 pub(crate) fn primary_arg<K: IndexKey>(args: &[u64]) -> u64
@@ -87,9 +87,8 @@ pub(crate) fn key_written<K: IndexKey>(
     let Some(bytes) = bytes_from(args, at, K::size(), memory) else {
         return Err(HostAnswer::Refused(Failure::BadPointer));
     };
-    match run.mode {
-        Mode::Reading => return Err(refused::<K>(alloc, call, DbFault::WriteRefused)),
-        Mode::Writing => (),
+    if run.mode == Mode::Reading {
+        return Err(refused::<K>(alloc, call, DbFault::WriteRefused));
     }
     match K::refusal(args, at) {
         Some(failure) => Err(HostAnswer::Refused(failure)),

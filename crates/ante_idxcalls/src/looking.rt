@@ -8,15 +8,15 @@ ghost use Rattle.ante_idxcalls.specs.Keyed.{shows_bound};
 ghost use Rattle.ante_rowcalls.specs.RowCalls.{AnswersRow};
 ghost use Rattle.ante_wmem.specs.Linear.{LinearMemory, is_inside};
 
-use crate::key_args::{key_alone, key_sought, primary_arg, primary_at};
+use crate::key_args::{key_alone, key_sought, primary_arg};
 use crate::keys::IndexKey;
-use crate::replies::{with_both, with_key};
-use ante_arguments::{arg32, name_arg};
+use crate::replies::{with_both, with_key, with_primary};
+use ante_arguments::name_arg;
 use ante_idxapi::{
     db_idx_end, db_idx_find_primary, db_idx_find_secondary, db_idx_lowerbound, db_idx_upperbound,
 };
 use ante_itercache::Iters;
-use ante_rowcalls::{found, neighbour};
+use ante_rowcalls::found;
 use ante_store::Tables;
 use ante_types::{Failure, RunContext};
 use ante_wmem::{HostAnswer, Memory};
@@ -42,7 +42,7 @@ fn find_row<T: Tables, K: IndexKey>(
     let table = name_arg(args, 2);
     let primary = primary_arg::<K>(args);
     match db_idx_find_primary::<T, K>(alloc, tables, iters, run, code, scope, table, primary) {
-        Ok(found) => with_key(memory, arg32(args, 3), found),
+        Ok(found) => with_key(args, memory, found),
         Err(_) => HostAnswer::OutOfMemory,
     }
 }
@@ -87,7 +87,7 @@ fn find_key<T: Tables, K: IndexKey>(
     let scope = name_arg(args, 1);
     let table = name_arg(args, 2);
     match db_idx_find_secondary(alloc, tables, iters, run, code, scope, table, key) {
-        Ok(found) => neighbour(memory, primary_at::<K>(args), found),
+        Ok(found) => with_primary::<K>(args, memory, found),
         Err(_) => HostAnswer::OutOfMemory,
     }
 }
@@ -133,7 +133,7 @@ fn bound_from<T: Tables, K: IndexKey>(
     let scope = name_arg(args, 1);
     let table = name_arg(args, 2);
     match db_idx_lowerbound(alloc, tables, iters, run, code, scope, table, key) {
-        Ok(found) => with_both(memory, arg32(args, 3), primary_at::<K>(args), found),
+        Ok(found) => with_both(args, memory, found),
         Err(_) => HostAnswer::OutOfMemory,
     }
 }
@@ -179,7 +179,7 @@ fn bound_above<T: Tables, K: IndexKey>(
     let scope = name_arg(args, 1);
     let table = name_arg(args, 2);
     match db_idx_upperbound(alloc, tables, iters, run, code, scope, table, key) {
-        Ok(found) => with_both(memory, arg32(args, 3), primary_at::<K>(args), found),
+        Ok(found) => with_both(args, memory, found),
         Err(_) => HostAnswer::OutOfMemory,
     }
 }

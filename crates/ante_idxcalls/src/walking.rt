@@ -4,6 +4,7 @@ ghost use Rattle.ante_calls.specs.IndexCalls as definitions;
 ghost use Rattle.ante_calls.specs.RowAnswers.{view_of};
 ghost use Rattle.ante_rowcalls.specs.RowCalls.{AnswersRow};
 
+use crate::key_args::PRIMARY_SIZE;
 use crate::keys::IndexKey;
 use crate::replies::refused;
 use ante_arguments::{arg32, bytes_from, signed_arg};
@@ -15,9 +16,6 @@ use ante_store::Tables;
 use ante_types::{Failure, RunContext};
 use ante_wmem::{HostAnswer, Memory};
 use std::alloc::Global;
-
-/// The bytes of a primary key.
-const PRIMARY_SIZE: u32 = 8;
 
 pub(crate) fn next<T: Tables, K: IndexKey>(
     args: &[u64],

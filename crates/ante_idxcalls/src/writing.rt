@@ -41,9 +41,7 @@ fn store_key<T: Tables, K: IndexKey>(
     let table = name_arg(args, 1);
     let payer = name_arg(args, 2);
     let primary = arg(args, 3);
-    match db_idx_store(
-        alloc, tables, iters, run, scope, table, payer, primary, key,
-    ) {
+    match db_idx_store(alloc, tables, iters, run, scope, table, payer, primary, key) {
         Ok(it) => HostAnswer::Value(word_of(it)),
         Err(fault) => refused::<K>(alloc, IndexCall::Store, fault),
     }

@@ -15,5 +15,5 @@ returns-in-Ok-clause-answer g c = λ left.
     let kind = index_kind g.K.Indexed.form g.K.Indexed.index in
     met_shown (name_of g.K.Indexed.form g.K.Indexed.index (codes "next")) (λ it. next kind it v) (bytes_from 1 8 c.args.args.now c.args.memory.now) c.in-Some._primary.now
     (to_z w32 (of_z w32 c.signed_arg.result)) (signed_arg c.args.args.now 0) c.arg32.result (arg32 c.args.args.now 1) c.in-Ok.met c.neighbour.result v w c.args.memory.now c.neighbour.new.memory left
-    (search rules) c.arg32.ensures (sym c.bytes_from.ensures.bytes ∙ ap (option_map (λ b. b.now)) c.in-Some.is) c.in-Ok.ensures.answer
+    (search rules) c.arg32.ensures (sym {b = bytes_from 1 8 c.args.args.now c.args.memory.now} c.bytes_from.ensures.bytes ∙ ap (option_map (λ b. b.now)) c.in-Some.is) c.in-Ok.ensures.answer
     (c.neighbour.ensures v w left)
