@@ -45,7 +45,7 @@ names_ordered = record {
 }
 
 module _ (accepts : List ℕ → Bool) where
-  abbrev Good : AccountRow → Type 0
+  abbrev pub Good : AccountRow → Type 0
   Good row = T (length row.code == 0 || accepts row.code)
 
   abbrev Keeps : Result World Failure → Type 0

@@ -1,3 +1,4 @@
+mod Founded
 mod Kept
 mod Letters
 mod Steps

@@ -12,8 +12,9 @@ use Rattle.ante_store.specs.declared.change.Change.TheVariants as change
 use Rattle.ante_store.specs.Changes.{after, refusal}
 use Rattle.ante_execution.specs.Answers.{DoesNative}
 use Rattle.ante_execution.specs.Native.Rules.{made, make_all}
+use Rattle.ante_execution.specs.Native.SetAbi.{described}
 use Rattle.ante_execution.specs.Native.SetCode.{coded}
-use Rattle.ante_execution.specs.NativeData.{SetCode}
+use Rattle.ante_execution.specs.NativeData.{SetAbi, SetCode}
 use Rattle.ante_execution.specs.Refusals.{unless}
 use Rattle.ante_native.specs.Parts.{Passes, Does}
 
@@ -80,4 +81,12 @@ pub coded_makes : (d : SetCode) (o : Option AccountRow) (row new : AccountRow) (
     Does (make_all (change.SetAccount d.account new ∷ []) w) result v → Does (make_all (coded d o) w) result v
 coded_makes d o row new w v result found is p =
     subst (λ (x : Option AccountRow). Does (make_all (coded d x) w) result v) (sym found)
+    (subst (λ (x : AccountRow). Does (make_all (change.SetAccount d.account x ∷ []) w) result v) is p)
+
+-- the account's row with its new description
+pub described_makes : (d : SetAbi) (o : Option AccountRow) (row new : AccountRow) (w v : World) (result : Result (Unit {0}) NativeFault) → o ≡ Some row →
+    new ≡ record { payer = row.payer; privileged = row.privileged; code = row.code; abi = d.abi } →
+    Does (make_all (change.SetAccount d.account new ∷ []) w) result v → Does (make_all (described d o) w) result v
+described_makes d o row new w v result found is p =
+    subst (λ (x : Option AccountRow). Does (make_all (described d x) w) result v) (sym found)
     (subst (λ (x : AccountRow). Does (make_all (change.SetAccount d.account x ∷ []) w) result v) is p)

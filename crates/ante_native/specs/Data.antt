@@ -2,6 +2,7 @@
 use Rattle.ante_execution.specs.NativeData as meant
 use Rattle.ante_native.specs.declared.newaccount.NewAccountData.{NewAccountData}
 use Rattle.ante_native.specs.declared.setcode.SetCodeData.{SetCodeData}
+use Rattle.ante_native.specs.declared.setabi.SetAbiData.{SetAbiData}
 use Rattle.ante_native.specs.declared.updateauth.UpdateAuthData.{UpdateAuthData}
 use Rattle.ante_native.specs.declared.deleteauth.DeleteAuthData.{DeleteAuthData}
 use Rattle.ante_native.specs.declared.linkauth.LinkAuthData.{LinkAuthData}
@@ -12,6 +13,9 @@ newaccount_of d = record { creator = d.creator; name = d.name; owner = d.owner; 
 
 abbrev pub setcode_of : SetCodeData → meant.SetCode
 setcode_of d = record { account = d.account; vmtype = d.vmtype; vmversion = d.vmversion; code = d.code }
+
+abbrev pub setabi_of : SetAbiData → meant.SetAbi
+setabi_of d = record { account = d.account; abi = d.abi }
 
 abbrev pub updateauth_of : UpdateAuthData → meant.UpdateAuth
 updateauth_of d = record { account = d.account; permission = d.permission; parent = d.parent; authority = d.authority }

@@ -1,12 +1,14 @@
 // What a genesis must be.
-ghost use Rattle.std.specs.Prelude.{◌≡◌, ◌==◌, not, ℕ, Bool, List, IfOk};
+ghost use Rattle.std.specs.Prelude.{◌≡◌, ◌==◌, not, ℕ, Bool, List, IfOk, OnOk};
 ghost use Rattle.std.specs.List.{list_any, list_all};
 ghost use Rattle.std.specs.Option.{option_map};
 ghost use Rattle.ante_types.specs.Genesis.{eosio};
+ghost use Rattle.ante_types.specs.GenesisWorld.{genesis_world};
 ghost use Rattle.ante_calls.specs.Accounts.{same_name};
 ghost use Rattle.ante_execution.specs.declared.ends.GenesisFault.TheVariants as fault;
 ghost use Rattle.ante_execution.specs.Answers.{ChecksGenesis};
 ghost use Rattle.ante_execution.specs.Codes.{Accepts};
+ghost use Rattle.ante_execution.specs.Native.SetCode.{CodesAreAccepted};
 ghost use Rattle.ante_execution.specs.GenesisRules.{genesis_fault, are_distinct, are_producers, is_there_first, is_first_authority, has_bad_authority, has_bad_code, authority_fault, code_fault};
 
 use crate::authority::{Levels, is_new_level, is_sound};
@@ -127,10 +129,9 @@ fn check_codes(alloc: Global, accounts: &[GenesisAccount]) -> Result<(), Genesis
     Ok(())
 }
 
-/// Whether this is a genesis, or the first of its faults.
 #[tactic(auto, unfolding(ante_execution::specs::GenesisRules::genesis_fault))]
-pub fn check_genesis(alloc: Global, genesis: &Genesis) -> Result<(), GenesisFault>
-    ensures checks { (accepts : List ℕ → Bool) → Accepts accepts → ChecksGenesis (genesis_fault accepts genesis.now) result }
+fn check_rules(alloc: Global, genesis: &Genesis) -> Result<(), GenesisFault>
+    ensures { (accepts : List ℕ → Bool) → Accepts accepts → ChecksGenesis (genesis_fault accepts genesis.now) result }
 {
     let accounts = genesis.accounts.as_slice();
     if genesis.version != 1 {
@@ -151,4 +152,12 @@ pub fn check_genesis(alloc: Global, genesis: &Genesis) -> Result<(), GenesisFaul
         return Err(GenesisFault::BadAuthority { account });
     }
     check_codes(alloc, accounts)
+}
+
+/// Whether this is a genesis, or the first of its faults.
+pub fn check_genesis(alloc: Global, genesis: &Genesis) -> Result<(), GenesisFault>
+    ensures checks { (accepts : List ℕ → Bool) → Accepts accepts → ChecksGenesis (genesis_fault accepts genesis.now) result }
+    ensures codes { (accepts : List ℕ → Bool) → Accepts accepts → OnOk result (CodesAreAccepted accepts (genesis_world genesis.now)) }
+{
+    check_rules(alloc, genesis)
 }
