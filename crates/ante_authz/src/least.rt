@@ -6,8 +6,8 @@ ghost use Rattle.ante_execution.specs.Authorities.{linked, updated, deleted, lea
 ghost use Rattle.ante_authz.specs.Gains.{GivesName};
 
 use crate::lookups::{has_permission, link};
-use crate::natives::{ACTIVE, native_of, read_deleted, read_updated};
-use ante_execution::{AuthFault, NativeAction};
+use crate::natives::{read_deleted, read_updated};
+use ante_execution::{ACTIVE, AuthFault, NativeAction, native_of};
 use ante_pack::{Level, Name, ReadFault};
 use ante_store::Store;
 use ante_types::Action;

@@ -6,8 +6,7 @@ ghost use Rattle.ante_types.specs.World.{World};
 ghost use Rattle.ante_authz.specs.Gains.{gained};
 
 use crate::lookups::permission;
-use crate::natives::EOSIO_CODE;
-use ante_execution::Weighed;
+use ante_execution::{EOSIO_CODE, Weighed};
 use ante_pack::{Key, KeyWeight, Level, LevelWeight, Name};
 use ante_store::Store;
 
