@@ -16,7 +16,8 @@ use Rattle.ante_rowcalls.specs.RowCalls.{AnswersRow}
 module _ {K : Type 0} where
   -- the key, then the count of its words
   abbrev pub with_key : KeyForm K → IndexRows K → List ℕ → LinearMemory → (K → Reply RowView Failure) → (left : ℕ) → Outcome RowView Failure
-  with_key form index args m go left = reading (key_bytes form index 3 args m) left (λ bytes. replies (unless (key_refusal form index 3 args) (go (form.of_bytes bytes))) left)
+  with_key form index args m go left = reading (key_bytes form index 3 args m) left (λ bytes.
+      replies (unless (key_refusal form index 3 args) (go (form.of_bytes bytes))) left)
 
   -- the key, a range for the primary key, then the count of the key's words
   abbrev pub with_keys : KeyForm K → IndexRows K → List ℕ → LinearMemory → (K → Reply RowView Failure) → (left : ℕ) → Outcome RowView Failure
@@ -24,7 +25,8 @@ module _ {K : Type 0} where
       replies (unless (key_refusal form index 3 args) (go (form.of_bytes bytes))) left))
 
   -- the key, whether the run writes, then the count of the key's words
-  abbrev pub with_written : KeyForm K → IndexRows K → (call : List ℕ) → Mode → (k : ℕ) → List ℕ → LinearMemory → (K → Reply RowView Failure) → (left : ℕ) → Outcome RowView Failure
+  abbrev pub with_written : KeyForm K → IndexRows K → (call : List ℕ) → Mode → (k : ℕ) → List ℕ → LinearMemory → (K → Reply RowView Failure) →
+      (left : ℕ) → Outcome RowView Failure
   with_written form index call mode k args m go left = reading (key_bytes form index k args m) left (λ bytes.
       replies (writing mode call (unless (key_refusal form index k args) (go (form.of_bytes bytes)))) left)
 

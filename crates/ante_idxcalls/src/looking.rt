@@ -33,7 +33,9 @@ fn find_row<T: Tables, K: IndexKey>(
     requires room_for_table { length iters.old.tables + 1 < 2 ^ 31 }
     requires room_for_row { length iters.old.rows < 2 ^ 31 }
     requires inside { is_inside memory.old.bytes (arg32 args.now 3) K.form.size ≡ true }
-    ensures answer { (left : ℕ) → AnswersRow (replies (definitions.shows_key K.form K.index (arg32 args.now 3) memory.old (definitions.find_primary K.form K.index (table_arg args.now) (arg args.now (definitions.after_key K.form K.index 3)) (view_of (T.stack tables.old) iters.old))) left) result
+    ensures answer { (left : ℕ) →
+        AnswersRow (replies (definitions.shows_key K.form K.index (arg32 args.now 3) memory.old
+        (definitions.find_primary K.form K.index (table_arg args.now) (arg args.now (definitions.after_key K.form K.index 3)) (view_of (T.stack tables.old) iters.old))) left) result
         (view_of (T.stack tables.old) iters.old) (view_of (T.stack tables.new) iters.new) memory.new left }
     ensures tables { tables.new ≡ tables.old }
 {
@@ -79,7 +81,9 @@ fn find_key<T: Tables, K: IndexKey>(
     requires room_for_table { length iters.old.tables + 1 < 2 ^ 31 }
     requires room_for_row { length iters.old.rows < 2 ^ 31 }
     requires inside { is_inside memory.old.bytes (arg32 args.now (definitions.after_key K.form K.index 3)) 8 ≡ true }
-    ensures answer { (left : ℕ) → AnswersRow (replies (definitions.shows_primary K.form K.index (arg32 args.now (definitions.after_key K.form K.index 3)) memory.old (definitions.find_secondary K.form K.index (table_arg args.now) key (view_of (T.stack tables.old) iters.old))) left) result
+    ensures answer { (left : ℕ) →
+        AnswersRow (replies (definitions.shows_primary K.form K.index (arg32 args.now (definitions.after_key K.form K.index 3)) memory.old
+        (definitions.find_secondary K.form K.index (table_arg args.now) key (view_of (T.stack tables.old) iters.old))) left) result
         (view_of (T.stack tables.old) iters.old) (view_of (T.stack tables.new) iters.new) memory.new left }
     ensures tables { tables.new ≡ tables.old }
 {
@@ -125,7 +129,9 @@ fn bound_from<T: Tables, K: IndexKey>(
     requires room_for_row { length iters.old.rows < 2 ^ 31 }
     requires inside { is_inside memory.old.bytes (arg32 args.now 3) K.form.size ≡ true }
     requires primary { is_inside memory.old.bytes (arg32 args.now (definitions.after_key K.form K.index 3)) 8 ≡ true }
-    ensures answer { (left : ℕ) → AnswersRow (replies (shows_bound K.form K.index args.now memory.old (definitions.lowerbound K.form K.index (table_arg args.now) key (view_of (T.stack tables.old) iters.old))) left) result
+    ensures answer { (left : ℕ) →
+        AnswersRow (replies (shows_bound K.form K.index args.now memory.old
+        (definitions.lowerbound K.form K.index (table_arg args.now) key (view_of (T.stack tables.old) iters.old))) left) result
         (view_of (T.stack tables.old) iters.old) (view_of (T.stack tables.new) iters.new) memory.new left }
     ensures tables { tables.new ≡ tables.old }
 {
@@ -148,7 +154,8 @@ pub(crate) fn lower_bound<T: Tables, K: IndexKey>(
 ) -> HostAnswer<Failure>
     requires room_for_table { length iters.old.tables + 1 < 2 ^ 31 }
     requires room_for_row { length iters.old.rows < 2 ^ 31 }
-    ensures answer { (left : ℕ) → AnswersRow (definitions.idx_bound K.form K.index (definitions.lowerbound K.form K.index) (view_of (T.stack tables.old) iters.old) args.now memory.old left) result
+    ensures answer { (left : ℕ) →
+        AnswersRow (definitions.idx_bound K.form K.index (definitions.lowerbound K.form K.index) (view_of (T.stack tables.old) iters.old) args.now memory.old left) result
         (view_of (T.stack tables.old) iters.old) (view_of (T.stack tables.new) iters.new) memory.new left }
     ensures tables { tables.new ≡ tables.old }
 {
@@ -171,7 +178,9 @@ fn bound_above<T: Tables, K: IndexKey>(
     requires room_for_row { length iters.old.rows < 2 ^ 31 }
     requires inside { is_inside memory.old.bytes (arg32 args.now 3) K.form.size ≡ true }
     requires primary { is_inside memory.old.bytes (arg32 args.now (definitions.after_key K.form K.index 3)) 8 ≡ true }
-    ensures answer { (left : ℕ) → AnswersRow (replies (shows_bound K.form K.index args.now memory.old (definitions.upperbound K.form K.index (table_arg args.now) key (view_of (T.stack tables.old) iters.old))) left) result
+    ensures answer { (left : ℕ) →
+        AnswersRow (replies (shows_bound K.form K.index args.now memory.old
+        (definitions.upperbound K.form K.index (table_arg args.now) key (view_of (T.stack tables.old) iters.old))) left) result
         (view_of (T.stack tables.old) iters.old) (view_of (T.stack tables.new) iters.new) memory.new left }
     ensures tables { tables.new ≡ tables.old }
 {
@@ -194,7 +203,8 @@ pub(crate) fn upper_bound<T: Tables, K: IndexKey>(
 ) -> HostAnswer<Failure>
     requires room_for_table { length iters.old.tables + 1 < 2 ^ 31 }
     requires room_for_row { length iters.old.rows < 2 ^ 31 }
-    ensures answer { (left : ℕ) → AnswersRow (definitions.idx_bound K.form K.index (definitions.upperbound K.form K.index) (view_of (T.stack tables.old) iters.old) args.now memory.old left) result
+    ensures answer { (left : ℕ) →
+        AnswersRow (definitions.idx_bound K.form K.index (definitions.upperbound K.form K.index) (view_of (T.stack tables.old) iters.old) args.now memory.old left) result
         (view_of (T.stack tables.old) iters.old) (view_of (T.stack tables.new) iters.new) memory.new left }
     ensures tables { tables.new ≡ tables.old }
 {

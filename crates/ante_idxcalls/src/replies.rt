@@ -37,7 +37,8 @@ pub(crate) fn with_key<K: IndexKey>(
     found: (i32, Option<K>),
 ) -> HostAnswer<Failure>
     requires { is_inside memory.old.bytes (calls.arg32 args.now 3) K.form.size ≡ true }
-    ensures { (old v : RowView) (left : ℕ) → AnswersRow (replies (iterator_and_key K.form (calls.arg32 args.now 3) memory.old found v) left) result old v memory.new left }
+    ensures { (old v : RowView) (left : ℕ) →
+        AnswersRow (replies (iterator_and_key K.form (calls.arg32 args.now 3) memory.old found v) left) result old v memory.new left }
 {
     let (it, key) = found;
     if let Some(key) = key {

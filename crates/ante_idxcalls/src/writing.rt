@@ -32,7 +32,8 @@ fn store_key<T: Tables, K: IndexKey>(
     requires ready { ReadyFor run.now.mode (T.stack tables.old) (T.writing tables.old) }
     requires room_for_table { length iters.old.tables + 1 < 2 ^ 31 }
     requires room_for_row { length iters.old.rows < 2 ^ 31 }
-    ensures answer { (m : LinearMemory) (left : ℕ) → AnswersRow (replies (stored_by K.form K.index run.now args.now m (view_of (T.stack tables.old) iters.old) key) left) result
+    ensures answer { (m : LinearMemory) (left : ℕ) →
+        AnswersRow (replies (stored_by K.form K.index run.now args.now m (view_of (T.stack tables.old) iters.old) key) left) result
         (view_of (T.stack tables.old) iters.old) (view_of (T.stack tables.new) iters.new) m left }
     ensures base { base_of (T.stack tables.new) (T.writing tables.new) (T.lent tables.new) ≡
         base_of (T.stack tables.old) (T.writing tables.old) (T.lent tables.old) }
@@ -78,7 +79,8 @@ fn update_key<T: Tables, K: IndexKey>(
     alloc: Global,
 ) -> HostAnswer<Failure>
     requires ready { ReadyFor run.now.mode (T.stack tables.old) (T.writing tables.old) }
-    ensures answer { (m : LinearMemory) (left : ℕ) → AnswersRow (replies (updated_by K.form K.index run.now args.now m (view_of (T.stack tables.old) iters.old) key) left) result
+    ensures answer { (m : LinearMemory) (left : ℕ) →
+        AnswersRow (replies (updated_by K.form K.index run.now args.now m (view_of (T.stack tables.old) iters.old) key) left) result
         (view_of (T.stack tables.old) iters.old) (view_of (T.stack tables.new) iters.new) m left }
     ensures base { base_of (T.stack tables.new) (T.writing tables.new) (T.lent tables.new) ≡
         base_of (T.stack tables.old) (T.writing tables.old) (T.lent tables.old) }
@@ -118,7 +120,8 @@ pub(crate) fn remove<T: Tables, K: IndexKey>(
     alloc: Global,
 ) -> HostAnswer<Failure>
     requires ready { ReadyFor run.now.mode (T.stack tables.old) (T.writing tables.old) }
-    ensures answer { (m : LinearMemory) (left : ℕ) → AnswersRow (definitions.idx_remove K.form K.index run.now (view_of (T.stack tables.old) iters.old) args.now m left) result
+    ensures answer { (m : LinearMemory) (left : ℕ) →
+        AnswersRow (definitions.idx_remove K.form K.index run.now (view_of (T.stack tables.old) iters.old) args.now m left) result
         (view_of (T.stack tables.old) iters.old) (view_of (T.stack tables.new) iters.new) m left }
     ensures base { base_of (T.stack tables.new) (T.writing tables.new) (T.lent tables.new) ≡
         base_of (T.stack tables.old) (T.writing tables.old) (T.lent tables.old) }
