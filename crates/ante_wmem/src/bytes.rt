@@ -1,5 +1,5 @@
 //! Ranges of a slice of bytes, and numbers in them, the lowest byte first.
-ghost use Rattle.std.specs.Prelude.{◌≡◌, ◌+◌, ◌^◌, ◌<◌, ◌≤◌, ◌↔◌, length, IsTrue};
+ghost use Rattle.std.specs.Prelude.{◌≡◌, ◌+◌, ◌^◌, ◌<◌, ◌≤◌, ◌↔◌, length, replicate, true, IsTrue};
 ghost use Rattle.ante_wmem.specs.Linear.{IsInside, is_inside, bytes_at, overwritten, little_endian, low_bytes, byte_count};
 
 use crate::Width;
@@ -55,5 +55,26 @@ pub(crate) fn put_number(bytes: &mut [u8], at: usize, width: Width, value: u64)
         Width::Two => bytes[at..at + 2].copy_from_slice(&low[..2]),
         Width::Four => bytes[at..at + 4].copy_from_slice(&low[..4]),
         Width::Eight => bytes[at..at + 8].copy_from_slice(&low),
+    }
+}
+
+/// Copies the bytes from `from` on to `to`, as if through a second buffer.
+pub(crate) fn copy(bytes: &mut [u8], to: usize, from: usize, count: usize)
+    requires to { is_inside bytes.old to count ≡ true }
+    requires from { is_inside bytes.old from count ≡ true }
+    ensures { bytes.new ≡ overwritten bytes.old to (bytes_at bytes.old from count) }
+{
+    if count > 0 {
+        bytes.copy_within(from..from + count, to);
+    }
+}
+
+/// Puts the byte so many times from `at` on.
+pub(crate) fn fill(bytes: &mut [u8], at: usize, byte: u8, count: usize)
+    requires { is_inside bytes.old at count ≡ true }
+    ensures { bytes.new ≡ overwritten bytes.old at (replicate count byte) }
+{
+    if count > 0 {
+        bytes[at..at + count].fill(byte);
     }
 }

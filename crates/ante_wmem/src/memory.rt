@@ -1,5 +1,5 @@
 //! The memory itself.
-ghost use Rattle.std.specs.Prelude.{◌≡◌, ◌+◌, ◌*◌, ◌<◌, ◌≤◌, ◌↔◌, length, replicate, IsTrue, is_ok, IsOk, IfOk, OnOk, OnErr};
+ghost use Rattle.std.specs.Prelude.{◌≡◌, ◌+◌, ◌*◌, ◌<◌, ◌≤◌, ◌↔◌, ◌&&◌, length, replicate, IsTrue, is_ok, IsOk, IfOk, OnOk, OnErr};
 
 use crate::limits::PAGE_SIZE;
 use crate::{OutOfBounds, Width, bytes};
@@ -127,6 +127,38 @@ impl Memory {
             let into = self.bytes.as_mut_slice();
             into[at..at + bytes.len()].copy_from_slice(bytes);
         }
+        Ok(())
+    }
+
+    /// Copies the bytes from `from` on to `to`, as if through a second buffer. No bytes can be copied between any addresses.
+    pub fn copy_bytes(&mut self, to: u32, from: u32, count: u32) -> Result<(), OutOfBounds>
+        ensures inside { is_ok result ≡ (is_inside self.old.bytes to count && is_inside self.old.bytes from count) }
+        ensures each { IsOk result ↔ IsInside self.old.bytes to count × IsInside self.old.bytes from count }
+        ensures copied { OnOk result (self.new ≡ written self.old to (bytes_at self.old.bytes from count)) }
+        ensures refused { OnErr result (self.new ≡ self.old) }
+    {
+        let (to, from, count) = (to as usize, from as usize, count as usize);
+        let bytes = self.bytes.as_mut_slice();
+        if !bytes::is_inside(bytes, to, count) || !bytes::is_inside(bytes, from, count) {
+            return Err(OutOfBounds);
+        }
+        bytes::copy(bytes, to, from, count);
+        Ok(())
+    }
+
+    /// Puts the byte so many times from `at` on. No bytes can be put at any address.
+    pub fn fill_bytes(&mut self, at: u32, byte: u8, count: u32) -> Result<(), OutOfBounds>
+        ensures inside { is_ok result ≡ is_inside self.old.bytes at count }
+        ensures each { IsOk result ↔ IsInside self.old.bytes at count }
+        ensures filled { OnOk result (self.new ≡ written self.old at (replicate count byte)) }
+        ensures refused { OnErr result (self.new ≡ self.old) }
+    {
+        let (at, count) = (at as usize, count as usize);
+        let bytes = self.bytes.as_mut_slice();
+        if !bytes::is_inside(bytes, at, count) {
+            return Err(OutOfBounds);
+        }
+        bytes::fill(bytes, at, byte, count);
         Ok(())
     }
 

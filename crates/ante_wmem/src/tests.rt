@@ -125,6 +125,49 @@ fn ranges_of_no_bytes_lie_anywhere(rt: HostRuntime) -> Result<(), Fail> {
 }
 
 #[test]
+fn ranges_are_copied(rt: HostRuntime) -> Result<(), Fail> {
+    let mut memory = Memory::new(rt.alloc(), 1, 1)?;
+    memory.write_bytes(0, &[1, 2, 3, 4, 5, 6])?;
+    for (to, from, count, done) in [
+        (2, 0, 4, true),
+        (0, 1, 4, true),
+        (65_534, 4, 2, true),
+        (65_534, 0, 3, false),
+        (0, 65_534, 3, false),
+        (65_537, u32::MAX, 0, true),
+    ] {
+        assert_eq!(rt;
+            memory.copy_bytes(to, from, count).is_ok(),
+            done,
+            "{count} from {from} to {to}"
+        );
+    }
+    assert_eq!(rt; memory.read_bytes(0, 6)?, [2, 1, 2, 3, 3, 4].as_slice());
+    assert_eq!(rt; memory.read_bytes(65_533, 3)?, [0, 3, 4].as_slice());
+    Ok(())
+}
+
+#[test]
+fn ranges_are_filled(rt: HostRuntime) -> Result<(), Fail> {
+    let mut memory = Memory::new(rt.alloc(), 1, 1)?;
+    for (at, byte, count, done) in [
+        (65_532, 7, 4, true),
+        (65_533, 8, 2, true),
+        (65_533, 9, 4, false),
+        (u32::MAX, 9, 0, true),
+        (u32::MAX, 9, 1, false),
+    ] {
+        assert_eq!(rt;
+            memory.fill_bytes(at, byte, count).is_ok(),
+            done,
+            "{count} at {at}"
+        );
+    }
+    assert_eq!(rt; memory.read_bytes(65_531, 5)?, [0, 7, 8, 8, 7].as_slice());
+    Ok(())
+}
+
+#[test]
 fn growth_stops_at_the_most(rt: HostRuntime) -> Result<(), Fail> {
     let mut memory = Memory::new(rt.alloc(), 1, MOST_MEMORY_PAGES)?;
     memory.write_bytes(65_535, &[7])?;
