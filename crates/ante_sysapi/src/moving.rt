@@ -1,5 +1,5 @@
 // Calls on the memory alone.
-ghost use Rattle.std.specs.Prelude.{◌≡◌, ◌≤◌, length, true, replicate, OnOk};
+ghost use Rattle.std.specs.Prelude.{◌≡◌, ◌≤◌, true, replicate};
 ghost use Rattle.std.specs.Cmp.Lexicographic.{slice_cmp};
 ghost use Rattle.std.specs.Ordering.{nat_cmp};
 ghost use Rattle.ante_calls.specs.Calls as calls;
@@ -7,38 +7,34 @@ ghost use Rattle.ante_calls.specs.MemoryCalls as memory_calls;
 ghost use Rattle.ante_sysapi.specs.Answers.{Tells};
 ghost use Rattle.ante_wmem.specs.Linear.{is_inside, bytes_at, written};
 
-use ante_arguments::{arg32, bytes_from, pay, put};
+use ante_arguments::{arg32, bytes_from, pay};
 use ante_types::Failure;
 use ante_wmem::{HostAnswer, Memory};
-use std::alloc::{AllocError, Global};
 use std::cmp::Ordering;
 
-// As if through a second buffer, which is what it is.
-fn move_within(
-    memory: &mut Memory,
-    to: u32,
-    from: u32,
-    count: u32,
-    alloc: Global,
-) -> Result<(), AllocError>
+// As if through a second buffer.
+fn move_within(memory: &mut Memory, to: u32, from: u32, count: u32)
     requires to { is_inside memory.old.bytes to count ≡ true }
     requires from { is_inside memory.old.bytes from count ≡ true }
-    ensures ok { OnOk result (memory.new ≡ written memory.old to (bytes_at memory.old.bytes from count)) }
+    ensures { memory.new ≡ written memory.old to (bytes_at memory.old.bytes from count) }
 {
-    let Ok(bytes) = memory.read_bytes(from, count) else {
-        unreachable!();
-    };
-    let bytes = Vec::from_slice(alloc, bytes)?;
-    put(memory, to, bytes.as_slice());
-    Ok(())
+    match memory.copy_bytes(to, from, count) {
+        Ok(()) => (),
+        Err(_) => unreachable!(),
+    }
 }
 
-pub(crate) fn memcpy(
-    args: &[u64],
-    memory: &mut Memory,
-    alloc: Global,
-    left: &mut u64,
-) -> HostAnswer<Failure>
+fn fill_within(memory: &mut Memory, at: u32, byte: u8, count: u32)
+    requires { is_inside memory.old.bytes at count ≡ true }
+    ensures { memory.new ≡ written memory.old at (replicate count byte) }
+{
+    match memory.fill_bytes(at, byte, count) {
+        Ok(()) => (),
+        Err(_) => unreachable!(),
+    }
+}
+
+pub(crate) fn memcpy(args: &[u64], memory: &mut Memory, left: &mut u64) -> HostAnswer<Failure>
     ensures answer { Tells (λ v. memory_calls.memcpy v args.now memory.old left.old) result memory.new left.new }
     ensures falls { left.new ≤ left.old }
 {
@@ -55,18 +51,11 @@ pub(crate) fn memcpy(
     if to.abs_diff(from) < count {
         return HostAnswer::Refused(Failure::Overlap);
     }
-    match move_within(memory, to, from, count, alloc) {
-        Ok(()) => HostAnswer::Value(u64::from(to)),
-        Err(_) => HostAnswer::OutOfMemory,
-    }
+    move_within(memory, to, from, count);
+    HostAnswer::Value(u64::from(to))
 }
 
-pub(crate) fn memmove(
-    args: &[u64],
-    memory: &mut Memory,
-    alloc: Global,
-    left: &mut u64,
-) -> HostAnswer<Failure>
+pub(crate) fn memmove(args: &[u64], memory: &mut Memory, left: &mut u64) -> HostAnswer<Failure>
     ensures answer { Tells (λ v. memory_calls.memmove v args.now memory.old left.old) result memory.new left.new }
     ensures falls { left.new ≤ left.old }
 {
@@ -80,18 +69,11 @@ pub(crate) fn memmove(
     if !pay(left, count as usize) {
         return HostAnswer::StepLimit;
     }
-    match move_within(memory, to, from, count, alloc) {
-        Ok(()) => HostAnswer::Value(u64::from(to)),
-        Err(_) => HostAnswer::OutOfMemory,
-    }
+    move_within(memory, to, from, count);
+    HostAnswer::Value(u64::from(to))
 }
 
-pub(crate) fn memset(
-    args: &[u64],
-    memory: &mut Memory,
-    alloc: Global,
-    left: &mut u64,
-) -> HostAnswer<Failure>
+pub(crate) fn memset(args: &[u64], memory: &mut Memory, left: &mut u64) -> HostAnswer<Failure>
     ensures answer { Tells (λ v. memory_calls.memset v args.now memory.old left.old) result memory.new left.new }
     ensures falls { left.new ≤ left.old }
 {
@@ -102,10 +84,7 @@ pub(crate) fn memset(
     if !pay(left, count as usize) {
         return HostAnswer::StepLimit;
     }
-    let Ok(bytes) = vec![in alloc; (byte % 256) as u8; count as usize] else {
-        return HostAnswer::OutOfMemory;
-    };
-    put(memory, to, bytes.as_slice());
+    fill_within(memory, to, (byte % 256) as u8, count);
     HostAnswer::Value(u64::from(to))
 }
 
