@@ -60,11 +60,7 @@ pub fn found(answer: Result<i32, DbFault>) -> HostAnswer<Failure>
 }
 
 /// A neighbour's iterator, with its primary key at this address of the memory, where it has one.
-pub fn neighbour(
-    memory: &mut Memory,
-    at: u32,
-    met: (i32, Option<u64>),
-) -> HostAnswer<Failure>
+pub fn neighbour(memory: &mut Memory, at: u32, met: (i32, Option<u64>)) -> HostAnswer<Failure>
     requires { is_inside memory.old.bytes at 8 ≡ true }
     ensures { (old v : RowView) (left : ℕ) → AnswersRow (replies (iterator_and_primary at memory.old met v) left) result old v memory.new left }
 {
