@@ -11,6 +11,9 @@ use Rattle.ante_types.specs.declared.trace.ActionTrace.{ActionTrace}
 use Rattle.ante_types.specs.World.{World}
 use Rattle.ante_calls.specs.Accounts.{no_name}
 use Rattle.ante_calls.specs.Views.{Seen, no_lists}
+use Rattle.ante_execution.specs.declared.jobs.Asked.{Asked}
+use Rattle.ante_execution.specs.declared.jobs.Job.{Job}
+use Rattle.ante_execution.specs.declared.jobs.Sender.{Sender}
 use Rattle.ante_execution.specs.Runs.{Codes, Ran, runs}
 
 -- what all runs of a transaction share
@@ -37,26 +40,7 @@ abbrev pub and_then : {A B : Type 0} → Result A Failed → (A → Result B Fai
 and_then (Ok a) go = go a
 and_then (Err f) go = Err f
 
--- who runs, and why
-pub record Job : Type 0 where
-  pub receiver : Name
-  pub notified : Bool
-  pub depth : ℕ
-  pub sender : Name
-  pub creator : ℕ
-
--- the run that sent an inline action, by its receiver and its ordinal
-pub record Sender : Type 0 where
-  pub receiver : Name
-  pub ordinal : ℕ
-
--- What the runs of an action have asked for: whom to notify, and for each the run's receiver that named it first; what to send, and for each
--- the run that sent it.
-pub record Asked : Type 0 where
-  pub recipients : List Name
-  pub namers : List Name
-  pub inlines : List Action
-  pub senders : List Sender
+-- ---- jobs
 
 abbrev pub nothing_asked : Asked
 nothing_asked = record { recipients = []; namers = []; inlines = []; senders = [] }
@@ -121,20 +105,36 @@ abbrev pub after_run : Option Failure → Action → Job → Asked → Going →
 after_run None action job a g r = Ok (asked_by job (next_ordinal g.traces) a r.seen.run, gone_on action job g r)
 after_run (Some f) action job a g r = Err (failed_at f action job g r)
 
+-- ---- who runs why, and one after another
+
+-- for the action's own account, in the run that its sender created
+abbrev pub first_job : Action → Sender → (depth : ℕ) → Job
+first_job action by depth = record { receiver = action.account; notified = false; depth = depth; sender = by.receiver; creator = by.ordinal }
+
+-- a notification was sent by the run that named its receiver, and is created by the action's first run
+abbrev pub notice : (depth creator : ℕ) → (name namer : Name) → Job
+notice depth creator name namer = record { receiver = name; notified = true; depth = depth; sender = namer; creator = creator }
+
+-- a recipient, and who named it
+abbrev pub recipient_of : Option Name → (namer : Name) → Option (Name × Name)
+recipient_of None namer = None
+recipient_of (Some name) namer = Some (name, namer)
+
+-- who sent a transaction's own action
+abbrev pub nobody : Sender
+nobody = record { receiver = no_name; ordinal = 0 }
+
+-- each action with the run that sent it, whole before the next
+abbrev pub in_turn : (Action → Sender → Going → Result Going Failed) → List Action → List Sender → Going → Result Going Failed
+in_turn does [] senders g = Ok g
+in_turn does (a ∷ actions) [] g = Ok g
+in_turn does (a ∷ actions) (s ∷ senders) g = and_then (does a s g) (in_turn does actions senders)
+
 module _ (codes : Codes) (scene : Scene) where
   unfoldable pub run_one : Action → Job → Asked → Going → Result (Asked × Going) Failed
   run_one action job a g = let r = runs codes (first_seen scene action job a.recipients g.world) g.left in after_run r.failure action job a g r
 
   -- ---- recipients
-
-  -- a notification was sent by the run that named its receiver, and is created by the action's first run
-  abbrev pub notice : (depth creator : ℕ) → (name namer : Name) → Job
-  notice depth creator name namer = record { receiver = name; notified = true; depth = depth; sender = namer; creator = creator }
-
-  -- a recipient, and who named it
-  abbrev pub recipient_of : Option Name → (namer : Name) → Option (Name × Name)
-  recipient_of None namer = None
-  recipient_of (Some name) namer = Some (name, namer)
 
   module _ (action : Action) (depth creator : ℕ) where
     abbrev pub notify_at : Option (Name × Name) → Asked × Going → (Asked × Going → Result (Asked × Going) Failed) → Result (Asked × Going) Failed
@@ -148,15 +148,6 @@ module _ (codes : Codes) (scene : Scene) where
 
   -- ---- the whole, with what an inline action does as a parameter
 
-  -- for the action's own account, in the run that its sender created
-  abbrev pub first_job : Action → Sender → (depth : ℕ) → Job
-  first_job action by depth = record { receiver = action.account; notified = false; depth = depth; sender = by.receiver; creator = by.ordinal }
-
-  abbrev pub in_turn : (Action → Sender → Going → Result Going Failed) → List Action → List Sender → Going → Result Going Failed
-  in_turn does [] senders g = Ok g
-  in_turn does (a ∷ actions) [] g = Ok g
-  in_turn does (a ∷ actions) (s ∷ senders) g = and_then (does a s g) (in_turn does actions senders)
-
   -- all runs of the action, and then what they sent
   abbrev pub causes : (inner : Action → Sender → Going → Result Going Failed) → (depth : ℕ) → Action → Sender → Going → Result Going Failed
   causes inner depth action by g =
@@ -167,9 +158,6 @@ module _ (codes : Codes) (scene : Scene) where
   abbrev pub act : (free depth : ℕ) → Action → Sender → Going → Result Going Failed
   act zero depth action by g = Err (record { failure = failure.InlineDepth; left = g.left; traces = g.traces; looks = g.looks })
   act (suc free) depth action by g = causes (act free (suc depth)) depth action by g
-
-  abbrev pub nobody : Sender
-  nobody = record { receiver = no_name; ordinal = 0 }
 
   -- a transaction's own action: five depths, from 0 to 4
   unfoldable pub apply : Action → Going → Result Going Failed

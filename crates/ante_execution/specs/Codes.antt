@@ -1,5 +1,5 @@
 -- What code does, by its bytes: the module that they encode, whether it is valid, and the run of it that nothing disturbs.
-use Rattle.std.specs.Prelude.{◌↔◌, T, ℕ, Bool, List, [], ◌∷◌, codes, Option, None, Some, Result, Ok, Err}
+use Rattle.std.specs.Prelude.{◌↔◌, T, ℕ, Bool, List, [], ◌∷◌, codes, Option, None, Some, Result, Ok, Err, if◌then◌else◌}
 use Rattle.ante_types.specs.declared.failure.Failure.{Failure}
 use Rattle.ante_types.specs.declared.failure.Failure.TheVariants as failure
 use Rattle.ante_wmem.specs.declared.host.HostAnswer.{HostAnswer}
@@ -76,7 +76,7 @@ of_outcome s (Returned t) = never s
 of_outcome s (Lacks t) = never s
 of_outcome s Stuck = never s
 
--- ---- codes; one that doesn't decode is never run
+-- ---- codes; one that isn't accepted is never run, for no state has it
 
 -- the pages that the module's memory begins with, if it has one
 abbrev pub least_pages : List Limits → ℕ
@@ -94,6 +94,6 @@ run_by (Err f) args s left = never s
 unfoldable pub codes_with : (accepts : List ℕ → Bool) → Codes
 codes_with accepts = record {
   accepts = accepts;
-  pages = λ code. pages_of (module_at code);
-  runs = λ code args s left. run_by (module_at code) args s left;
+  pages = λ code. if accepts code then pages_of (module_at code) else 0;
+  runs = λ code args s left. if accepts code then run_by (module_at code) args s left else never s;
 }

@@ -34,7 +34,7 @@ allows_less h left less le a = record {
 room_after : (left less : ℕ) (i j : Iterators) → less < left → Grows i j → HasRoom left i → HasRoom less j
 room_after left less i j lt g r = record { tables = omega (arith, lt, g.tables, r.tables); rows = omega (arith, lt, g.rows, r.rows) }
 
-allows_after : (h : HostView) (s : Seen) (left less : ℕ) → less < left → Goes h.seen s → Allows h left → Allows (over h s) less
+pub allows_after : (h : HostView) (s : Seen) (left less : ℕ) → less < left → Goes h.seen s → Allows h left → Allows (over h s) less
 allows_after h s left less lt g a = record {
   room = record {
     rows = room_after left less h.seen.lists.rows s.lists.rows lt g.rows a.room.rows;

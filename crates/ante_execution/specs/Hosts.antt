@@ -64,11 +64,12 @@ call s number args m left = checked (is_send_inline (intrinsic_at number)) (intr
 
 -- ---- the host over the sessions beneath
 
--- the host as contracts see it: what a run sees; and what no call changes, of the store and which reference to it is held
+-- the host as contracts see it: what a run sees; and what no call changes, of the store and which references are held, to the store and to what
+-- the run has of its own
 pub record HostView : Type 0 where
   pub seen : Seen
   pub base : Base
-  pub holder : ℕ
+  pub holder : ℕ × ℕ
 
 abbrev pub over : HostView → Seen → HostView
 over h s = record { seen = s; base = h.base; holder = h.holder }

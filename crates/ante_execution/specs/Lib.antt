@@ -11,6 +11,7 @@ pub mod Codes
 pub mod Actions
 pub mod Transactions
 pub mod Blocks
+pub mod Stopping
 pub mod Answers
 pub mod HostLaws
 pub mod CodeLaws

@@ -47,16 +47,30 @@ code_of (Some row) = row.code
 abbrev pub code_at : Name → World → List ℕ
 code_at name w = code_of (account_at name w)
 
+-- ---- code
+
+-- `apply` is given the receiver, the action's account and the action's name
+abbrev pub arguments : RunContext → List ℕ
+arguments run = run.receiver.0 ∷ run.action.account.0 ∷ run.action.name.0 ∷ []
+
+-- ---- native actions
+
+abbrev pub is_setcode : NativeAction → Bool
+is_setcode native.SetCode = true
+is_setcode native.NewAccount = false
+is_setcode native.SetAbi = false
+is_setcode native.UpdateAuth = false
+is_setcode native.DeleteAuth = false
+is_setcode native.LinkAuth = false
+is_setcode native.UnlinkAuth = false
+
+abbrev pub in_world : World → Seen → Seen
+in_world w s = record { world = w; lists = s.lists; run = s.run; packed = s.packed }
+
 module _ (codes : Codes) where
   -- a run begins with a step, and the pages of the code that its receiver has then
   abbrev pub first_steps : (code : List ℕ) → ℕ
   first_steps code = if length code == 0 then 1 else (1 + codes.pages code)
-
-  -- ---- code
-
-  -- `apply` is given the receiver, the action's account and the action's name
-  abbrev pub arguments : RunContext → List ℕ
-  arguments run = run.receiver.0 ∷ run.action.account.0 ∷ run.action.name.0 ∷ []
 
   -- an account without code does nothing
   abbrev pub code_runs : (code : List ℕ) → Seen → (left : ℕ) → Ran
@@ -67,18 +81,6 @@ module _ (codes : Codes) where
   receiver_runs s left = code_runs (code_at s.run.receiver s.world) s left
 
   -- ---- the native action
-
-  abbrev pub is_setcode : NativeAction → Bool
-  is_setcode native.SetCode = true
-  is_setcode native.NewAccount = false
-  is_setcode native.SetAbi = false
-  is_setcode native.UpdateAuth = false
-  is_setcode native.DeleteAuth = false
-  is_setcode native.LinkAuth = false
-  is_setcode native.UnlinkAuth = false
-
-  abbrev pub in_world : World → Seen → Seen
-  in_world w s = record { world = w; lists = s.lists; run = s.run; packed = s.packed }
 
   -- then the code runs, except after setcode
   abbrev pub native_done : NativeAction → Result World Failure → Seen → (left : ℕ) → Ran

@@ -1,4 +1,5 @@
 ghost use Rattle.std.specs.Prelude.{◌≡◌};
+ghost use Rattle.ante_execution.specs.declared.ends.ApplyEnd.TheVariants as apply;
 ghost use Rattle.ante_execution.specs.declared.ends.GenesisFault.TheVariants as genesis;
 ghost use Rattle.ante_execution.specs.declared.ends.NativeFault.TheVariants as native;
 
@@ -53,6 +54,14 @@ pub enum ApplyEnd {
     /// A look asked it to stop, and told this moment.
     #[error("cut at {at}")]
     Cut { at: u64 },
+}
+
+impl From<AllocError> for ApplyEnd {
+    ghost from_gives = { λ _ e. e ≡ apply.OutOfMemory };
+
+    fn from(_: AllocError) -> ApplyEnd {
+        ApplyEnd::OutOfMemory
+    }
 }
 
 /// Why a genesis isn't one: the first of these that holds.

@@ -4,9 +4,11 @@
 #![tactic(auto)]
 
 mod ends;
+mod jobs;
 mod kinds;
 mod natives;
 
 pub use ends::{ApplyEnd, AuthFault, GenesisFault, NativeFault};
+pub use jobs::{Asked, Job, Sender};
 pub use kinds::{NativeAction, Weighed};
 pub use natives::{ACTIVE, EOSIO_ANY, EOSIO_CODE, OWNER, native_named, native_of};

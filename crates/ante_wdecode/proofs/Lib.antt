@@ -4,6 +4,6 @@ mod Grammar
 mod Laws
 mod Lebs
 mod Modules
-mod Order
+pub mod Order
 mod Sequences
 mod Values
