@@ -18,8 +18,8 @@ use ante_store::Tables;
 use ante_types::{Failure, Label, Mode, RunContext};
 use std::alloc::Global;
 
-// The native action of the run, which only the account that the action is for does.
-fn native_of_run(run: &RunContext) -> Option<NativeAction>
+/// The native action of the run, which only the account that the action is for does.
+pub fn native_of_run(run: &RunContext) -> Option<NativeAction>
     ensures { result ≡ native_of_run run.now }
 {
     if run.receiver.0 == run.action.account.0 {

@@ -4,6 +4,7 @@
 mod action;
 mod authority;
 mod codes;
+mod costs;
 mod deleteauth;
 mod genesis;
 mod linkauth;
@@ -16,5 +17,6 @@ mod setcode;
 mod unlinkauth;
 mod updateauth;
 
-pub use action::native;
+pub use action::{native, native_of_run};
+pub use costs::native_steps;
 pub use genesis::check_genesis;

@@ -25,10 +25,10 @@ pub(crate) struct SetCodeData {
     account: Name,
     vmtype: u8,
     vmversion: u8,
-    code: Bytes,
+    pub(crate) code: Bytes,
 }
 
-fn read_setcode(alloc: Global, bytes: &[u8]) -> Result<SetCodeData, ReadFault>
+pub(crate) fn read_setcode(alloc: Global, bytes: &[u8]) -> Result<SetCodeData, ReadFault>
     ensures { Reads setcode_of (whole setcode bytes.now) result }
 {
     let mut reader = PackReader::new(bytes);
