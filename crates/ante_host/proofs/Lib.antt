@@ -1,0 +1,3 @@
+mod Sent
+mod Answered
+mod Alone
