@@ -6,18 +6,15 @@ use Rattle.ante_types.specs.declared.context.RunContext.{RunContext}
 use Rattle.ante_types.specs.declared.failure.Failure.{Failure}
 use Rattle.ante_wmeaning.specs.declared.ends.RunEnd.{RunEnd}
 use Rattle.ante_wmeaning.specs.declared.ends.RunEnd.TheVariants as end
-use Rattle.ante_calls.specs.Views.{Seen, no_lists}
+use Rattle.ante_calls.specs.Views.{Seen}
 use Rattle.ante_execution.specs.Codes.{failure_of}
 use Rattle.ante_execution.specs.Runs.{Ran}
 use Rattle.ante_host.specs.Code.{CameOut}
+pub use Rattle.ante_host.specs.Code.{seen}
 use Rattle.ante_execution.specs.declared.ends.ApplyEnd.{ApplyEnd}
 use Rattle.ante_execution.specs.declared.ends.ApplyEnd.TheVariants as ends
 use Rattle.ante_execution.specs.declared.ends.NativeFault.{NativeFault}
 use Rattle.ante_execution.specs.declared.ends.NativeFault.TheVariants as native
-
--- what a run sees that has met no rows yet
-abbrev pub seen : World → RunContext → (packed : List ℕ) → Seen
-seen w run packed = record { world = w; lists = no_lists; run = run; packed = packed }
 
 -- it is this failure, or wants memory
 abbrev pub Shows : Option Failure → Result (Option Failure) ApplyEnd → Type 0

@@ -16,8 +16,8 @@ use Rattle.ante_execution.specs.Hosts.{call}
 use Rattle.ante_execution.specs.Runs.{Ran, HasRun}
 
 -- what a run sees that has met no rows yet
-abbrev pub first_seen : World → RunContext → (packed : List ℕ) → Seen
-first_seen w run packed = record { world = w; lists = no_lists; run = run; packed = packed }
+abbrev pub seen : World → RunContext → (packed : List ℕ) → Seen
+seen w run packed = record { world = w; lists = no_lists; run = run; packed = packed }
 
 -- the run of the module from what it sees, where nothing disturbs it
 abbrev pub run_alone : Tree → (args : List ℕ) → Seen → (left : ℕ) → Ran

@@ -6,7 +6,7 @@ ghost use Rattle.ante_execution.specs.Hosts.{Allows, most_met};
 ghost use Rattle.ante_execution.specs.Runs.{arguments};
 ghost use Rattle.ante_execution.specs.Stopping.{Reaches, AskedAt};
 ghost use Rattle.ante_host.specs.Owned.{lists_of};
-ghost use Rattle.ante_host.specs.Code.{first_seen, run_alone, RunsAs, Leads};
+ghost use Rattle.ante_host.specs.Code.{seen, run_alone, RunsAs, Leads};
 ghost use Rattle.ante_wmeaning.specs.declared.ends.RunEnd.TheVariants as end;
 ghost use Rattle.ante_wtree.specs.Trees.{tree_of};
 
@@ -57,7 +57,7 @@ fn run_with<T: Tables, P: Stop>(
     requires room { left.old < most_met }
     ensures base { base_of (T.stack tables.new) (T.writing tables.new) (T.lent tables.new) ≡
         base_of (T.stack tables.old) (T.writing tables.old) (T.lent tables.old) }
-    ensures runs { Leads (run_alone (tree_of module.now) (arguments own.old.run) (first_seen (T.stack tables.old).top own.old.run packed.now) left.old)
+    ensures runs { Leads (run_alone (tree_of module.now) (arguments own.old.run) (seen (T.stack tables.old).top own.old.run packed.now) left.old)
         (P.looks stop.old) (P.looks stop.new) result (T.stack tables.new).top own.new.run left.new }
     ensures reaches { Reaches P.may stop.old stop.new }
     ensures cut { (at : ℕ) → result ≡ Ok (end.Cut at) → AskedAt P.may stop.old at stop.new }
@@ -99,7 +99,7 @@ pub fn run_code<T: Tables, P: Stop>(
     requires room { left.old < most_met }
     ensures base { base_of (T.stack tables.new) (T.writing tables.new) (T.lent tables.new) ≡
         base_of (T.stack tables.old) (T.writing tables.old) (T.lent tables.old) }
-    ensures runs { Leads (run_alone (tree_of module.now) (arguments run) (first_seen (T.stack tables.old).top run packed.now) left.old) (P.looks stop.old) (P.looks stop.new)
+    ensures runs { Leads (run_alone (tree_of module.now) (arguments run) (seen (T.stack tables.old).top run packed.now) left.old) (P.looks stop.old) (P.looks stop.new)
         result.0 (T.stack tables.new).top result.1 left.new }
     ensures reaches { Reaches P.may stop.old stop.new }
     ensures cut { (at : ℕ) → result.0 ≡ Ok (end.Cut at) → AskedAt P.may stop.old at stop.new }
