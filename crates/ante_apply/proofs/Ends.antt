@@ -19,7 +19,7 @@ use Rattle.ante_execution.specs.declared.kinds.NativeAction.{NativeAction}
 use Rattle.ante_execution.specs.Native.{native_of_run, native_run, native_in_run, native_steps}
 use Rattle.ante_execution.specs.Runs.{Ran, fine, fails, paid, in_world, is_setcode, receiver_runs, native_done, begun, code_at, first_steps, runs}
 use Rattle.ante_host.specs.Code as host
-use Rattle.ante_apply.specs.Runs.{seen, Shows, ShowsEnd, EndedAs, ShowsNative, NativelyDoes, Leads, RunsTo}
+use Rattle.ante_apply.specs.Runs.{ShowsEnd, EndedAs, ShowsNative, NativelyDoes, Leads, RunsTo}
 use Rattle.ante_apply.proofs.Stops.{rises_none}
 
 -- ---- with no look

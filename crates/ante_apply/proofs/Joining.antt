@@ -1,5 +1,5 @@
 -- Parts of an action one after another.
-use Rattle.std.proofs.Common.{◌≡◌, refl, sym, ap, subst, ◌∙◌, ℕ, ◌+◌, List, Option, Result, Ok, Err, arith}
+use Rattle.std.proofs.Common.{◌≡◌, refl, ap, ◌∙◌, ℕ, ◌+◌, List, Option, Result, Ok, Err, arith}
 use Rattle.ante_base.specs.Stops.{Rises}
 use Rattle.ante_types.specs.declared.failure.Failure.{Failure}
 use Rattle.ante_types.specs.declared.trace.ActionTrace.{ActionTrace}

@@ -1,5 +1,5 @@
 -- An accepted code and its module.
-use Rattle.std.proofs.Common.{◌≡◌, refl, sym, ap, subst, ◌∙◌, ℕ, Bool, true, false, List, length, None, Some, Result, Ok, Err}
+use Rattle.std.proofs.Common.{◌≡◌, refl, sym, ap, subst, ◌∙◌, ℕ, Bool, true, false, List, length, None, Some, Result, Err}
 use Rattle.std.specs.Prelude.{T, IfErr, ◌==◌, if◌then◌else◌}
 use Rattle.ante_wtree.specs.Trees.{Tree, tree_of}
 use Rattle.ante_wdecode.specs.Decoding.{module_at}

@@ -1,5 +1,5 @@
 -- The loops over recipients and over what was sent: what is left of the definition after some rounds.
-use Rattle.std.proofs.Common.{◌≡◌, refl, sym, ap, subst, ◌∙◌, ℕ, zero, suc, ◌+◌, ◌<◌, List, [], ◌∷◌, Option, None, Some, Result, Ok, Err, arith}
+use Rattle.std.proofs.Common.{◌≡◌, sym, ap, subst, ◌∙◌, ℕ, zero, suc, ◌+◌, ◌<◌, List, ◌∷◌, Option, None, Some, Result, Ok, Err, arith}
 use Rattle.std.specs.Prelude.{slice_get, slice_index_or}
 use Rattle.ante_base.specs.Stops.{Rises}
 use Rattle.ante_pack.specs.declared.names.Name.{Name}

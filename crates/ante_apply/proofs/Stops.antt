@@ -1,6 +1,5 @@
 -- Looks one after another.
-use Rattle.std.proofs.Common.{◌≡◌, refl, sym, ap, subst, ◌∙◌, ℕ, zero, suc, ◌+◌, ◌^◌, List, [], ◌∷◌, ◌++◌, Option, None, Some, arith}
-use Rattle.std.specs.Prelude.{min, max}
+use Rattle.std.proofs.Common.{◌≡◌, refl, sym, ap, subst, ◌∙◌, ℕ, ◌+◌, List, [], ◌∷◌, ◌++◌, Option, None, Some, arith}
 use Rattle.ante_base.specs.Stops.{Looks, looked, Rises}
 use Rattle.ante_execution.specs.Stopping.{Reaches, AskedAt}
 

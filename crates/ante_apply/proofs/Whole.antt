@@ -1,5 +1,5 @@
 -- A transaction's own action, from the first depth.
-use Rattle.std.proofs.Common.{◌≡◌, refl, sym, ap, subst, ◌∙◌, ℕ, ◌+◌, List, Option, Result, Ok, Err, arith}
+use Rattle.std.proofs.Common.{◌≡◌, ap, ◌∙◌, ℕ, ◌+◌, List, Option, Result, Ok, Err, arith}
 use Rattle.ante_types.specs.declared.chain.Action.{Action}
 use Rattle.ante_types.specs.declared.trace.ActionTrace.{ActionTrace}
 use Rattle.ante_execution.specs.Actions.{Scene, Going, nobody, act, apply}

@@ -1,5 +1,5 @@
 -- What the code of one run answers.
-use Rattle.std.specs.Prelude.{◌≡◌, ℕ, Bool, List, Option, None, Some, Result, Ok, Err}
+use Rattle.std.specs.Prelude.{◌≡◌, ℕ, Bool, Option, None, Some, Result, Ok, Err}
 use Rattle.std.specs.declared.alloc.AllocError.{AllocError}
 use Rattle.ante_types.specs.World.{World}
 use Rattle.ante_types.specs.declared.context.RunContext.{RunContext}

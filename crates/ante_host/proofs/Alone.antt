@@ -1,17 +1,14 @@
 -- A run over the host came out as the run of what it sees does alone, with as many looks; and the host holds what it held.
-use Rattle.std.proofs.Common.{◌≡◌, refl, sym, ap, subst, ◌∙◌, ℕ, ◌-◌, arith, List, Option, Result, Ok, Err}
+use Rattle.std.proofs.Common.{◌≡◌, refl, sym, subst, ◌∙◌, ℕ, ◌-◌, arith, List, Option, Result, Ok, Err}
 use Rattle.std.specs.declared.alloc.AllocError.{AllocError}
 use Rattle.std.specs.Prelude.{IfOk}
 use Rattle.ante_base.specs.Stops.{Rises}
 use Rattle.ante_types.specs.declared.failure.Failure.{Failure}
-use Rattle.ante_wmem.specs.Linear.{LinearMemory}
-use Rattle.ante_wmem.specs.HostCalls.{HostMeaning}
-use Rattle.ante_wmem.specs.declared.host.HostAnswer.{HostAnswer}
 use Rattle.ante_wmem.specs.declared.host.HostAnswer.TheVariants as answer
 use Rattle.ante_wtree.specs.Trees.{Tree}
 use Rattle.ante_wmeaning.specs.declared.ends.RunEnd.{RunEnd}
 use Rattle.ante_wmeaning.specs.declared.ends.RunEnd.TheVariants as end
-use Rattle.ante_wmeaning.specs.Configurations.{State, Outcome, Normal, Branch, Returned, Ended, Lacks, InHost, Stuck}
+use Rattle.ante_wmeaning.specs.Configurations.{Outcome, Normal, Branch, Returned, Ended, Lacks, InHost, Stuck}
 use Rattle.ante_wmeaning.specs.Environment.{Environment, undisturbed, CountsLooks}
 use Rattle.ante_wmeaning.specs.Invocation.{run_of}
 use Rattle.ante_wmeaning.specs.RunEnds.{Remainder, Ends, EndsWith, Uncut, Comes}
@@ -24,8 +21,7 @@ use Rattle.ante_execution.specs.CodeLaws.{remains, ends_as}
 use Rattle.ante_execution.specs.Codes.{failure_of}
 use Rattle.ante_execution.specs.HostLaws.{hosts_alike}
 use Rattle.ante_execution.specs.Hosts.{HostView, host_call, call, Shows}
-use Rattle.ante_execution.specs.Runs.{HasRun}
-use Rattle.ante_host.specs.Code.{run_alone, CameOut, EndsAs, RunsAs}
+use Rattle.ante_host.specs.Code.{run_alone, CameOut, RunsAs}
 
 -- ---- an end over one host is an end over a host that replies alike
 

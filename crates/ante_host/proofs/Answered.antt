@@ -1,8 +1,8 @@
 -- From what a group's call answers of its part of what a run sees to what the host answers.
-use Rattle.std.proofs.Common.{◌≡◌, refl, sym, ap, subst, ◌∙◌, ℕ, ◌≤◌, ◌<◌, List, Option, None, Some, Bool, true, false, arith}
+use Rattle.std.proofs.Common.{◌≡◌, refl, sym, ap, subst, ◌∙◌, ℕ, ◌≤◌, List, Option, None, Some, Bool, true, false, arith}
 use Rattle.ante_types.specs.declared.failure.Failure.{Failure}
 use Rattle.ante_wmem.specs.Linear.{LinearMemory}
-use Rattle.ante_wmem.specs.HostCalls.{Reply, Outcome, value, nothing, exit, refused, step_limit, IsAnswer, StaysAllowed, Keeps}
+use Rattle.ante_wmem.specs.HostCalls.{Reply, Outcome, value, nothing, exit, refused, step_limit, IsAnswer, StaysAllowed}
 use Rattle.ante_wmem.specs.declared.host.HostAnswer.{HostAnswer}
 use Rattle.ante_wmem.specs.declared.host.HostAnswer.TheVariants as answer
 use Rattle.ante_calls.specs.Calls.{map_reply, map_outcome}

@@ -1,12 +1,11 @@
 -- What the check of an action that was sent answers.
-use Rattle.std.specs.Prelude.{◌≡◌, ℕ, List, [], Option, None, Some}
+use Rattle.std.specs.Prelude.{◌≡◌, Option, None, Some}
 use Rattle.ante_types.specs.declared.failure.Failure.{Failure}
-use Rattle.ante_types.specs.declared.failure.Failure.TheVariants as failure
 use Rattle.ante_wmem.specs.declared.host.HostAnswer.{HostAnswer}
 use Rattle.ante_wmem.specs.declared.host.HostAnswer.TheVariants as answer
 use Rattle.ante_execution.specs.Answers.{Checks}
 use Rattle.ante_execution.specs.declared.ends.AuthFault.{AuthFault}
-use Rattle.std.specs.Prelude.{Result, Ok, Err}
+use Rattle.std.specs.Prelude.{Err}
 
 -- it goes on where there is no refusal, and else it is refused so, or wants memory
 abbrev pub Lets : Option Failure → HostAnswer Failure → Type 0

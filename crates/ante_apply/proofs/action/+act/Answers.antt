@@ -1,7 +1,6 @@
-use Rattle.std.proofs.Common.{◌≡◌, ℕ, ◌+◌, ◌-◌, List, [], ◌∷◌, length, inl, inr, Option, Result, Ok, Err, refl, sym, ap, subst, ◌∙◌, arith, rules}
+use Rattle.std.proofs.Common.{◌≡◌, ◌+◌, ◌-◌, ◌∷◌, length, inl, inr, Ok, Err, refl, subst, ◌∙◌, arith, rules}
 use Rattle.ante_execution.specs.Actions.{act, in_turn}
 use Rattle.ante_execution.specs.Codes.{codes_with}
-use Rattle.ante_execution.specs.declared.ends.ApplyEnd.{ApplyEnd}
 use Rattle.ante_execution.specs.declared.jobs.Asked.{Asked}
 use Rattle.ante_apply.specs.Going.{all_runs, going, Follows}
 use Rattle.ante_apply.specs.Scenes.{scene_of}

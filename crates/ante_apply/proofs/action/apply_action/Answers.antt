@@ -1,4 +1,4 @@
-use Rattle.std.proofs.Common.{ℕ, List, Option, subst}
+use Rattle.std.proofs.Common.{ℕ, List, subst}
 use Rattle.ante_types.specs.declared.context.Mode.{Mode}
 use Rattle.ante_execution.specs.Actions.{nobody, act}
 use Rattle.ante_execution.specs.Codes.{codes_with}

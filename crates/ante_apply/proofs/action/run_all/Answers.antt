@@ -1,7 +1,6 @@
-use Rattle.std.proofs.Common.{◌≡◌, ℕ, suc, ◌+◌, Option, Result, Ok, Err, sym, ap, subst, ◌∙◌, arith}
-use Rattle.ante_execution.specs.Actions.{Going, run_one, first_job, nothing_asked, notify, next_ordinal}
+use Rattle.std.proofs.Common.{suc, ◌+◌, Ok, Err, subst, arith}
+use Rattle.ante_execution.specs.Actions.{run_one, first_job, nothing_asked, notify, next_ordinal}
 use Rattle.ante_execution.specs.Codes.{codes_with}
-use Rattle.ante_execution.specs.declared.ends.ApplyEnd.{ApplyEnd}
 use Rattle.ante_execution.specs.declared.jobs.Asked.{Asked}
 use Rattle.ante_apply.specs.Going.{going, Follows}
 use Rattle.ante_apply.specs.Scenes.{scene_of}

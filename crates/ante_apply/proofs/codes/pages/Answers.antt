@@ -1,4 +1,4 @@
-use Rattle.std.proofs.Common.{ap, sym, subst, ◌∙◌, Some, None}
+use Rattle.std.proofs.Common.{ap, subst, ◌∙◌}
 use Rattle.ante_wtree.specs.Trees.{tree_of}
 use Rattle.ante_wtree.specs.declared.modules.Module.{Module}
 use Rattle.ante_execution.specs.Codes.{least_pages}

@@ -1,7 +1,6 @@
-use Rattle.std.proofs.Common.{◌≡◌, ℕ, ◌+◌, Option, Result, Ok, Err, refl, sym, ap, subst, ◌∙◌, arith}
-use Rattle.ante_execution.specs.Actions.{run_one, notice, notify}
+use Rattle.std.proofs.Common.{refl, sym, subst, ◌∙◌, arith}
+use Rattle.ante_execution.specs.Actions.{run_one, notice}
 use Rattle.ante_execution.specs.Codes.{codes_with}
-use Rattle.ante_execution.specs.declared.ends.ApplyEnd.{ApplyEnd}
 use Rattle.ante_execution.specs.declared.jobs.Asked.{Asked}
 use Rattle.ante_apply.specs.Going.{going, Follows}
 use Rattle.ante_apply.specs.Scenes.{scene_of}

@@ -1,10 +1,7 @@
-use Rattle.std.proofs.Common.{sym, ap, subst, ◌∙◌, ◌+◌, ◌-◌, ℕ, length, Option, Result, Ok, Err}
-use Rattle.ante_types.specs.declared.context.RunContext.{RunContext}
-use Rattle.ante_types.specs.declared.failure.Failure.{Failure}
+use Rattle.std.proofs.Common.{ap, subst, ◌∙◌, ◌+◌, ◌-◌, length, Err}
 use Rattle.ante_calls.specs.Views.{said}
 use Rattle.ante_execution.specs.Actions.{context_of, run_one}
 use Rattle.ante_execution.specs.Codes.{codes_with}
-use Rattle.ante_execution.specs.declared.ends.ApplyEnd.{ApplyEnd}
 use Rattle.ante_execution.specs.declared.jobs.Asked.{Asked}
 use Rattle.ante_execution.specs.Runs.{runs}
 use Rattle.ante_apply.specs.Going.{going, Closes}

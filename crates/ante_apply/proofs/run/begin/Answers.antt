@@ -1,6 +1,5 @@
-use Rattle.std.proofs.Common.{refl, sym, ap, subst, ◌∙◌, Some, Ok}
+use Rattle.std.proofs.Common.{refl, sym, ap, subst, ◌∙◌, Ok}
 use Rattle.ante_types.specs.declared.failure.Failure.TheVariants as failure
-use Rattle.ante_types.specs.World.{World}
 use Rattle.ante_execution.specs.Native.{native_of_run, native_run}
 use Rattle.ante_execution.specs.Runs.{paid}
 use Rattle.ante_apply.specs.Runs.{seen, NativelyDoes}

@@ -1,14 +1,13 @@
-use Rattle.std.proofs.Common.{refl, sym, ap, subst, ◌∙◌, Some}
+use Rattle.std.proofs.Common.{refl, sym, ap, subst, ◌∙◌}
 use Rattle.ante_types.specs.declared.failure.Failure.TheVariants as failure
 use Rattle.ante_types.specs.World.{World}
 use Rattle.ante_undo.specs.Stack.{Stack}
 use Rattle.ante_wtree.specs.declared.modules.Module.{Module}
 use Rattle.ante_wtree.specs.Trees.{tree_of}
-use Rattle.ante_execution.specs.Codes.{codes_with}
-use Rattle.ante_execution.specs.Runs.{arguments, receiver_runs, code_at}
+use Rattle.ante_execution.specs.Runs.{arguments, code_at}
 use Rattle.ante_host.specs.Code.{run_alone}
 use Rattle.ante_apply.specs.Codes.{IsModuleFor}
-use Rattle.ante_apply.specs.Runs.{seen, RunsTo}
+use Rattle.ante_apply.specs.Runs.{seen}
 use Rattle.ante_apply.proofs.Ends.{is_fine, is_failed, same_ran}
 use Rattle.ante_apply.proofs.Modules.{runs_nothing, runs_none, runs_module}
 use Rattle.ante_apply.proofs.run.receiver_runs.Goals as goal

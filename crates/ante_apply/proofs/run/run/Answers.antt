@@ -1,9 +1,9 @@
-use Rattle.std.proofs.Common.{refl, sym, ap, ◌∙◌}
+use Rattle.std.proofs.Common.{refl, ap, ◌∙◌}
 use Rattle.ante_types.specs.declared.failure.Failure.TheVariants as failure
 use Rattle.ante_types.specs.World.{World}
 use Rattle.ante_undo.specs.Stack.{Stack}
 use Rattle.ante_execution.specs.Codes.{codes_with}
-use Rattle.ante_execution.specs.Runs.{paid, code_at, first_steps, begun}
+use Rattle.ante_execution.specs.Runs.{code_at, begun}
 use Rattle.ante_execution.specs.Native.{native_of_run}
 use Rattle.ante_apply.specs.Runs.{seen}
 use Rattle.ante_apply.proofs.Ends.{is_failed, same_ran, unpaid, paid_so, by_steps}

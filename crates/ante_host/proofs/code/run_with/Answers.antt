@@ -1,4 +1,4 @@
-use Rattle.std.proofs.Common.{rules, subst, ap, sym, ◌≡◌, ◌∙◌}
+use Rattle.std.proofs.Common.{rules, subst, ap}
 use Rattle.ante_wtree.specs.Trees.{tree_of}
 use Rattle.ante_calls.specs.Views.{Lists}
 use Rattle.ante_execution.specs.Hosts.{HostView}

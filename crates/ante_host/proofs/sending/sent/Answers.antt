@@ -1,6 +1,5 @@
 use Rattle.std.proofs.Common.{sym, ap, subst, ◌∙◌, Err}
 use Rattle.std.specs.Option.{option_copied}
-use Rattle.ante_calls.specs.Views.{Seen}
 use Rattle.ante_execution.specs.Answers.{Checks}
 use Rattle.ante_host.proofs.Sent.{checked_of}
 use Rattle.ante_host.proofs.sending.sent.Goals as goal

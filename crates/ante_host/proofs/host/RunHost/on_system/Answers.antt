@@ -1,4 +1,4 @@
-use Rattle.std.proofs.Common.{ap, subst, ◌∙◌, refl, ◌≡◌}
+use Rattle.std.proofs.Common.{ap, subst, ◌∙◌, ◌≡◌}
 use Rattle.ante_calls.specs.System.{sys_call}
 use Rattle.ante_calls.specs.Views.{sys_of, with_sys, said}
 use Rattle.ante_execution.specs.Hosts.{HostView}
