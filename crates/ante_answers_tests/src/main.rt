@@ -11,16 +11,26 @@ mod asking;
 mod trial;
 mod words;
 
+use std::alloc::Global;
 use std::{env, fs, io};
 use trial::Trial;
+
+fn play_lines(rt: &impl Print, alloc: Global, trial: &mut Trial, text: &str) -> io::Result<()> {
+    for line in text.lines() {
+        trial.print(rt, alloc, line)?;
+    }
+    Ok(())
+}
+
+fn play(rt: &impl Print, alloc: Global, text: &str) -> io::Result<()> {
+    let mut trial = Trial::new(alloc)?;
+    play_lines(rt, alloc, &mut trial, text)
+}
 
 fn main(rt: HostRuntime) -> io::Result<()> {
     for name in env::args(&rt)?.skip(1) {
         let text = fs::read_to_string(&rt, name.as_str())?;
-        let mut trial = Trial::new(rt.alloc())?;
-        for line in text.as_str().lines() {
-            trial.print(&rt, rt.alloc(), line)?;
-        }
+        play(&rt, rt.alloc(), text.as_str())?;
     }
     Ok(())
 }
