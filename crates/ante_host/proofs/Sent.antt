@@ -1,6 +1,6 @@
 -- An action that was sent, and what sending it leaves of the run.
-use Rattle.std.proofs.Common.{◌≡◌, refl, ap, ◌∙◌, ℕ, zero, suc, ◌/◌, ◌-◌, Bool, true, false, List, [], ◌∷◌, length, drop, Option, None, Some, Result, Ok, Err}
-use Rattle.std.specs.Prelude.{slice_get, nat_lt, if◌then◌else◌}
+use Rattle.std.proofs.Common.{◌≡◌, refl, ap, ◌∙◌, ℕ, ◌/◌, ◌-◌, Bool, true, false, List, [], length, Option, None, Some, Result, Ok, Err}
+use Rattle.std.specs.Prelude.{nat_lt, if◌then◌else◌}
 use Rattle.ante_pack.specs.Forms.{whole}
 use Rattle.ante_pack.specs.declared.fault.PackFault.{PackFault}
 use Rattle.ante_types.specs.Chain.{action}
@@ -15,14 +15,7 @@ use Rattle.ante_calls.specs.Calls.{range, reading, paying, unless}
 use Rattle.ante_calls.specs.Keeping.{Leaving}
 use Rattle.ante_calls.specs.Views.{Seen, SysView, said}
 use Rattle.ante_execution.specs.Authorities.{check_action}
-use Rattle.ante_execution.specs.Hosts.{first_action, last_sent, refusal_of, sent_refusal}
-
--- the first of what is left is the item at that place
-pub first_dropped : (n : ℕ) (actions : List Action) → first_action (drop n actions) ≡ slice_get actions n
-first_dropped zero [] = refl
-first_dropped zero (a ∷ actions) = refl
-first_dropped (suc n) [] = refl
-first_dropped (suc n) (a ∷ actions) = first_dropped n actions
+use Rattle.ante_execution.specs.Hosts.{last_sent, refusal_of, sent_refusal}
 
 -- the mode, and what was said, are as before
 abbrev pub Kept : SysView → SysView → Type 0
