@@ -15,8 +15,6 @@ use Rattle.ante_execution.specs.declared.ends.ApplyEnd.{ApplyEnd}
 use Rattle.ante_execution.specs.declared.ends.ApplyEnd.TheVariants as ends
 use Rattle.ante_execution.specs.declared.ends.AuthFault.{AuthFault}
 use Rattle.ante_execution.specs.declared.ends.AuthFault.TheVariants as auth
-use Rattle.ante_port.specs.declared.block.BlockRunError.{BlockRunError}
-use Rattle.ante_port.specs.declared.block.BlockRunError.TheVariants as block
 use Rattle.ante_execution.specs.declared.ends.GenesisFault.{GenesisFault}
 use Rattle.ante_execution.specs.declared.ends.GenesisFault.TheVariants as genesis
 use Rattle.ante_execution.specs.declared.ends.NativeFault.{NativeFault}
@@ -69,9 +67,3 @@ ReadsOnly trace looks (Err e) old new = Unit {0}
 abbrev pub Transacts : Done → Result Trace AllocError → World → Type 0
 Transacts done (Ok t) w = (t ≡ done.trace) × (w ≡ done.world)
 Transacts done (Err e) w = Unit {0}
-
--- a block left this state, or the number of its first failure was given
-abbrev pub RunsBlock : Result World ℕ → Result (Unit {0}) BlockRunError → World → Type 0
-RunsBlock result (Ok done) w = result ≡ Ok w
-RunsBlock result (Err block.OutOfMemory) w = Unit {0}
-RunsBlock result (Err (block.Invalid code)) w = result ≡ Err code
