@@ -1,8 +1,7 @@
 mod Modules
-mod Stops
-mod Joining
+pub mod Stops
+pub mod Joining
 mod Rounds
 mod Coming
 mod Ends
 mod Depths
-mod Whole

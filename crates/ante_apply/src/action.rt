@@ -5,7 +5,6 @@ ghost use Rattle.ante_apply.specs.Scenes.{mode_of, scene_of, scene_with};
 ghost use Rattle.ante_calls.specs.ActionData.{IsPacked};
 ghost use Rattle.ante_calls.specs.Views.{base_of, ReadyFor};
 ghost use Rattle.ante_execution.specs.Actions.{act, apply};
-ghost use Rattle.ante_execution.specs.Answers.{Comes};
 ghost use Rattle.ante_execution.specs.Codes.{Accepts, codes_with};
 ghost use Rattle.ante_execution.specs.declared.ends.ApplyEnd.TheVariants as ends;
 ghost use Rattle.ante_execution.specs.Stopping.{Reaches, AskedAt};
@@ -153,10 +152,10 @@ pub fn apply_action<T: Tables, P: Stop>(
     requires session { T.writing tables.old ≡ true → 0 < length (T.stack tables.old).under }
     requires above { T.writing tables.old ≡ true → IsAbove 1 (T.stack tables.old) }
     requires packed { IsPacked packed.now }
-    ensures comes { (accepts : List ℕ → Bool) → Accepts accepts →
-        Comes (λ done n. going (T.stack tables.new).top left.new traces.new n)
+    ensures follows { (accepts : List ℕ → Bool) → Accepts accepts → (k : ℕ) →
+        Follows (λ done n. going (T.stack tables.new).top left.new traces.new n) k (P.looks stop.old) (P.looks stop.new)
         (apply (codes_with accepts) (scene_with (mode_of (T.writing tables.old)) slot packed.now) action.now
-        (going (T.stack tables.old).top left.old traces.old 0)) result left.new traces.new (P.looks stop.old) (P.looks stop.new) }
+        (going (T.stack tables.old).top left.old traces.old k)) result left.new traces.new }
     ensures small { IfOk result (λ done. length traces.new + left.new ≤ length traces.old + left.old) }
     ensures base { base_of (T.stack tables.new) (T.writing tables.new) (T.lent tables.new) ≡
         base_of (T.stack tables.old) (T.writing tables.old) (T.lent tables.old) }

@@ -1,18 +1,14 @@
 -- What the code of each layer answers: what the definition says, or want of memory, or that it was asked to stop, of which nothing is said.
-use Rattle.std.specs.Prelude.{◌≡◌, ℕ, Bool, true, false, List, Option, None, Some, Result, Ok, Err}
+use Rattle.std.specs.Prelude.{◌≡◌, ℕ, Bool, true, false, Option, None, Some, Result, Ok, Err}
 use Rattle.ante_types.specs.declared.failure.Failure.{Failure}
 use Rattle.ante_types.specs.declared.failure.Failure.TheVariants as failure
 use Rattle.ante_base.specs.Stops.{Rises}
 use Rattle.ante_port.specs.declared.ReadEnd.{ReadEnd}
 use Rattle.ante_port.specs.declared.ReadEnd.TheVariants as read
 use Rattle.std.specs.declared.alloc.AllocError.{AllocError}
-use Rattle.ante_types.specs.declared.trace.ActionTrace.{ActionTrace}
 use Rattle.ante_types.specs.declared.trace.Trace.{Trace}
 use Rattle.ante_types.specs.World.{World}
-use Rattle.ante_execution.specs.Actions.{Failed}
 use Rattle.ante_execution.specs.Transactions.{Done}
-use Rattle.ante_execution.specs.declared.ends.ApplyEnd.{ApplyEnd}
-use Rattle.ante_execution.specs.declared.ends.ApplyEnd.TheVariants as ends
 use Rattle.ante_execution.specs.declared.ends.AuthFault.{AuthFault}
 use Rattle.ante_execution.specs.declared.ends.AuthFault.TheVariants as auth
 use Rattle.ante_execution.specs.declared.ends.GenesisFault.{GenesisFault}
@@ -46,16 +42,6 @@ ChecksGenesis fault (Err genesis.AccountOrder) = fault ≡ Some genesis.AccountO
 ChecksGenesis fault (Err genesis.NoSystem) = fault ≡ Some genesis.NoSystem
 ChecksGenesis fault (Err (genesis.BadAuthority account)) = fault ≡ Some (genesis.BadAuthority account)
 ChecksGenesis fault (Err (genesis.BadCode account)) = fault ≡ Some (genesis.BadCode account)
-
--- An action, or a part of what it causes, went on so or failed so, with these steps left and these runs begun. What it gives is told from the
--- looks that it took, by which the stop's count rose, where the stop tells it.
-abbrev pub Comes : {A B : Type 0} → (A → (looks : ℕ) → B) → Result B Failed → Result A ApplyEnd → (left : ℕ) → (traces : List ActionTrace) →
-    (old new : Option ℕ) → Type 0
-Comes going result (Ok a) left traces old new = (looks : ℕ) × Rises looks old new × (result ≡ Ok (going a looks))
-Comes going result (Err (ends.Failed f)) left traces old new =
-    (looks : ℕ) × Rises looks old new × (result ≡ Err (record { failure = f; left = left; traces = traces; looks = looks }))
-Comes going result (Err ends.OutOfMemory) left traces old new = Unit {0}
-Comes going result (Err (ends.Cut at)) left traces old new = Unit {0}
 
 -- a read-only transaction gave this trace, and the stop's count rose by so many looks
 abbrev pub ReadsOnly : Trace → (looks : ℕ) → Result (ReadEnd Trace) AllocError → (old new : Option ℕ) → Type 0
