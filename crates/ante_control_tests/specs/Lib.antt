@@ -1,3 +1,2 @@
-pub mod Under
 pub mod Numbers
 pub mod Sound

@@ -8,11 +8,8 @@
 //! What is to be printed was computed apart from the program.
 #![tactic(auto)]
 
-mod effects;
-mod machine;
 mod numbers;
 mod pushes;
-mod run;
 mod table;
 
 use std::{env, fs, io};

@@ -3,8 +3,8 @@ ghost use Rattle.std.specs.Prelude.{◌≡◌, IfOk};
 ghost use Rattle.ante_control_tests.specs.Numbers.{asked, failure_of, trace_of};
 ghost use Rattle.ante_control_tests.specs.Numbers as numbers;
 
-use crate::effects::Effects;
 use ante_pack::{Bytes, Digest, ReadFault, Seq};
+use ante_session_machine::Effects;
 use ante_sessions::set_entry;
 use ante_types::{BlockInfo, Failure, Head, Trace, read_trx, trx_id};
 use ante_undo::Layered;

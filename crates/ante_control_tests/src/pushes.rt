@@ -3,10 +3,10 @@ ghost use Rattle.std.specs.Prelude.{◌≡◌, IsNone, IfOk};
 ghost use Rattle.ante_pack.specs.Forms.{list_of};
 ghost use Rattle.ante_types.specs.Chain.{receipt};
 
-use crate::machine::SessionMachine;
 use crate::numbers::Numbers;
 use ante_control::{Chain, PushError, Pushed};
 use ante_pack::Digest;
+use ante_session_machine::SessionMachine;
 use ante_types::{Block, Head, read_block, read_genesis};
 use ante_undo::Layered;
 use ante_verdicts::NamedVerdicts;

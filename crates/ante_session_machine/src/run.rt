@@ -1,19 +1,19 @@
-ghost use Rattle.std.specs.Prelude.{◌≡◌, ℕ, ◌+◌, ◌≤◌, ◌<◌, ◌^◌, None, IsNone, IfOk, OnOk, OnErr};
+ghost use Rattle.std.specs.Prelude.{◌≡◌, ℕ, ◌+◌, ◌≤◌, ◌<◌, None};
 ghost use Rattle.ante_pack.specs.Forms.{whole};
 ghost use Rattle.ante_types.specs.Chain.{transaction};
 ghost use Rattle.ante_types.specs.Ids as ids;
-ghost use Rattle.ante_undo.specs.Stack.{Stack, with_top, IsAbove};
+ghost use Rattle.ante_undo.specs.Stack.{Stack, with_top};
 ghost use Rattle.ante_machine.specs.Steps.{info_of, block_runs, receipt_runs, receipts_run};
 ghost use Rattle.ante_machine.specs.Stacks.{RunsTo};
-ghost use Rattle.ante_control_tests.specs.Under.{Makes, IsOpened};
+ghost use Rattle.ante_session_machine.specs.Under.{Makes, IsOpened};
 
 use crate::effects::Effects;
-use ante_pack::{Bytes, Digest, ReadFault, Seq};
+use ante_pack::{Digest, ReadFault};
 use ante_port::BlockRunError;
 use ante_sessions::Sessions;
-use ante_types::{Block, BlockInfo, Receipt, Trace, block_id, block_num, failure_code, read_trx};
+use ante_types::{Block, BlockInfo, Receipt, block_id, block_num, failure_code, read_trx};
 use ante_verdicts::Verdicts;
-use std::alloc::{AllocError, Global};
+use std::alloc::Global;
 
 fn info_of(block: &Block) -> BlockInfo
     requires { ids.block_num block.now.header.previous < 4294967295 }
@@ -61,7 +61,7 @@ fn make_block<S: Sessions, E: Effects<S>, V: Verdicts>(
     block: &Block,
     verdicts: &V,
 ) -> Result<(), BlockRunError>
-    requires above { IsAbove 1 (S.stack state.old) }
+    requires opened { IsOpened (S.stack state.old) }
     requires room { ids.block_num block.now.header.previous < 4294967295 }
     ensures { Makes (block_runs E.steps chain.now (V.judge verdicts.now) (S.stack state.old).top block.now) (S.stack state.old) (S.stack state.new) result }
 {
@@ -95,7 +95,7 @@ fn make_receipts<S: Sessions, E: Effects<S>, V: Verdicts>(
     receipts: &[Receipt],
     verdicts: &V,
 ) -> Result<(), BlockRunError>
-    requires { IsAbove 1 (S.stack state.old) }
+    requires opened { IsOpened (S.stack state.old) }
     ensures { Makes (receipts_run E.steps chain.now (V.judge verdicts.now) info receipts.now (S.stack state.old).top) (S.stack state.old) (S.stack state.new) result }
 {
     let mut rest = receipts;
@@ -115,7 +115,7 @@ fn make_receipt<S: Sessions, E: Effects<S>, V: Verdicts>(
     receipt: &Receipt,
     verdicts: &V,
 ) -> Result<(), BlockRunError>
-    requires { IsAbove 1 (S.stack state.old) }
+    requires opened { IsOpened (S.stack state.old) }
     ensures { Makes (receipt_runs E.steps chain.now (V.judge verdicts.now) info receipt.now (whole transaction receipt.now.packed) (S.stack state.old).top) (S.stack state.old) (S.stack state.new) result }
 {
     match read_trx(alloc, receipt.packed.as_slice()) {
@@ -143,65 +143,4 @@ fn make_receipt<S: Sessions, E: Effects<S>, V: Verdicts>(
         return Err(BlockRunError::Invalid { code: 32 });
     }
     Ok(())
-}
-
-/// Runs a transaction in a session of its own, which becomes a part of the one below it, or is taken back.
-pub fn trx_in_session<S: Sessions, E: Effects<S>, V: Verdicts>(
-    alloc: Global,
-    chain: &Digest,
-    state: &mut S,
-    effects: &E,
-    info: BlockInfo,
-    packed: &[u8],
-    signatures: &Seq<Bytes>,
-    verdicts: &V,
-) -> Result<Trace, AllocError>
-    requires { IsOpened (S.stack state.old) }
-    ensures ok { OnOk result (S.stack state.new ≡ with_top (E.steps.trx chain.now (V.judge verdicts.now) (S.stack state.old).top info packed.now signatures.now).0 (S.stack state.old)) }
-    ensures trace { IfOk result (λ trace. trace ≡ (E.steps.trx chain.now (V.judge verdicts.now) (S.stack state.old).top info packed.now signatures.now).1) }
-    ensures err { OnErr result (S.stack state.new ≡ S.stack state.old) }
-{
-    match state.begin(alloc) {
-        Ok(_) => {}
-        Err(refused) => return Err(refused),
-    }
-    match effects.trx(alloc, chain, state, info, packed, signatures, verdicts) {
-        Ok(trace) => {
-            state.squash();
-            Ok(trace)
-        }
-        Err(refused) => {
-            state.undo();
-            Err(refused)
-        }
-    }
-}
-
-/// Ends a block in the same way.
-pub fn finish_in_session<S: Sessions, E: Effects<S>>(
-    alloc: Global,
-    chain: &Digest,
-    state: &mut S,
-    effects: &E,
-    num: u32,
-    id: &Digest,
-) -> Result<(), AllocError>
-    requires { IsOpened (S.stack state.old) }
-    ensures ok { OnOk result (S.stack state.new ≡ with_top (E.steps.finish chain.now (S.stack state.old).top num id.now) (S.stack state.old)) }
-    ensures err { OnErr result (S.stack state.new ≡ S.stack state.old) }
-{
-    match state.begin(alloc) {
-        Ok(_) => {}
-        Err(refused) => return Err(refused),
-    }
-    match effects.finish(alloc, chain, state, num, id) {
-        Ok(()) => {
-            state.squash();
-            Ok(())
-        }
-        Err(refused) => {
-            state.undo();
-            Err(refused)
-        }
-    }
 }

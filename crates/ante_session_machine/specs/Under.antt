@@ -21,6 +21,14 @@ module _ {W : Type 0} where
   parts chain s None counted = record { chain = chain; stack = s; pending = None; counted = counted }
   parts chain s (Some info) counted = record { chain = chain; stack = without_session s; pending = Some (record { info = info; world = s.top }); counted = counted }
 
+  -- the world that stands now: the pending block's, or the newest block's
+  abbrev pub newest_of : Option (Pending W) → Stack W → W
+  newest_of None s = s.top
+  newest_of (Some p) s = p.world
+
+  abbrev pub newest : Parts W → W
+  newest p = newest_of p.pending p.stack
+
   pub record IsOpened (s : Stack W) : Type 0 where
     pub session : 0 < length s.under
     pub above : IsAbove 1 s

@@ -1,8 +1,9 @@
 ghost use Rattle.std.specs.Prelude.{◌≡◌, ℕ, ◌+◌, ◌≤◌, ◌<◌, ◌^◌, IsNone};
 ghost use Rattle.ante_machine.specs.Stacks.{counted_once};
+ghost use Rattle.ante_session_machine.specs.Under.{newest};
 
 use crate::effects::Effects;
-use crate::run::{finish_in_session, run_in_session, trx_in_session};
+use crate::run::run_in_session;
 use ante_machine::{BlockMachine, Worlds};
 use ante_pack::{Bytes, Digest, Seq};
 use ante_port::BlockRunError;
@@ -24,7 +25,7 @@ pub struct SessionMachine<S: Sessions, E: Effects<S>> {
 
 impl<S: Sessions, E: Effects<S>> Model for SessionMachine<S, E> {
     ghost use Rattle.std.specs.Prelude.{◌≤◌, ◌^◌};
-    ghost use Rattle.ante_control_tests.specs.Under.{Parts, parts, IsSession};
+    ghost use Rattle.ante_session_machine.specs.Under.{Parts, parts, IsSession};
 
     ghost Value = { Parts S.Map };
 
@@ -58,9 +59,17 @@ impl<S: Sessions, E: Effects<S>> SessionMachine<S, E> {
         }
     }
 
-    /// The value as it is on the newest world.
-    pub fn state(&self) -> &S {
+    /// The value that the machine stands for.
+    pub fn state(&self) -> &S
+        ensures newest { (S.stack result.now).top ≡ newest self.now }
+        ensures idle { IsNone self.now.pending → S.stack result.now ≡ self.now.stack }
+    {
         &self.state
+    }
+
+    /// What it does to worlds.
+    pub fn effects(&self) -> &E {
+        &self.effects
     }
 }
 
@@ -127,11 +136,10 @@ impl<S: Sessions, E: Effects<S>> BlockMachine for SessionMachine<S, E> {
         let Some(info) = self.pending else {
             unreachable!()
         };
-        trx_in_session(
+        self.effects.trx(
             alloc,
             &self.chain,
             &mut self.state,
-            &self.effects,
             info,
             packed,
             signatures,
@@ -143,14 +151,10 @@ impl<S: Sessions, E: Effects<S>> BlockMachine for SessionMachine<S, E> {
         let Some(info) = self.pending else {
             unreachable!()
         };
-        match finish_in_session(
-            alloc,
-            &self.chain,
-            &mut self.state,
-            &self.effects,
-            info.num,
-            id,
-        ) {
+        match self
+            .effects
+            .finish(alloc, &self.chain, &mut self.state, info.num, id)
+        {
             Ok(()) => {
                 self.pending = None;
                 Ok(())

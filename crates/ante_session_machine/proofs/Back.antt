@@ -6,7 +6,7 @@ use Rattle.ante_undo.specs.Stack.{Stack, with_top, with_session, under_top, begu
 use Rattle.ante_port.specs.declared.block.BlockRunError.{BlockRunError}
 use Rattle.ante_port.specs.declared.block.BlockRunError.TheVariants.{OutOfMemory, Invalid}
 use Rattle.ante_machine.specs.Stacks.{Pending, Runs, Fails, RunsTo}
-use Rattle.ante_control_tests.specs.Under.{Parts, parts, without_session, Makes}
+use Rattle.ante_session_machine.specs.Under.{Parts, parts, without_session, Makes}
 
 module _ {W : Type 0} where
   same_snoc : (xs ys : List W) (x y : W) → xs ++ x ∷ [] ≡ ys ++ y ∷ [] → (xs ≡ ys) × (x ≡ y)
