@@ -11,49 +11,53 @@ use ante_wvalid::{ValidModule, validate};
 use std::alloc::{AllocError, Global};
 use std::marker::Model;
 
+/// A code, and a module that was validated.
+#[derive(Drop)]
+pub struct Coded {
+    pub code: Bytes,
+    pub valid: ValidModule,
+}
+
 /// A code and the module that it encodes.
 #[derive(Drop)]
 pub struct Cached {
-    code: Bytes,
-    module: ValidModule,
+    coded: Coded,
 }
 
 impl Model for Cached {
-    ghost use Rattle.std.specs.Prelude.{ℕ, List};
-    ghost use Rattle.std.specs.Coded.{coded×, coded_list, coded_ℕ};
-    ghost use Rattle.ante_wtree.specs.declared.modules.Module.{Module};
-    ghost use Rattle.ante_wvalid.specs.contracts.valid.ValidModule as valid;
+    ghost use Rattle.ante_modcache.specs.declared.cached.Coded.{Coded};
 
-    ghost Value = { List ℕ × Module };
+    ghost Value = { Coded };
 
-    ghost coded = { coded× (coded_list coded_ℕ) valid.the_row.coded };
+    ghost use Rattle.std.specs.Coded.{codes};
+    ghost use Rattle.ante_wtree.specs.contracts.instructions.Instr as instr;
+
+    ghost coded = { Prim.hlevel (codes, instr.the_row.coded) };
 
     ghost use Rattle.ante_modcache.specs.Modules.{IsModuleOf};
 
-    ghost view = { λ c. (c.code, c.module) };
+    ghost view = { λ c. c.coded };
 
-    ghost invariant = { λ c. IsModuleOf c.code c.module };
+    ghost invariant = { λ c. IsModuleOf c.coded.code c.coded.valid };
 }
 
 impl Cached {
     /// A copy of the code, and the module that it encodes.
-    pub fn new(alloc: Global, code: &[u8], decoded: ValidModule) -> Result<Cached, AllocError>
-        requires { IsModuleOf code.now decoded }
-        ensures { IfOk result (λ c. c ≡ (code.now, decoded)) }
+    pub fn new(alloc: Global, code: &[u8], valid: ValidModule) -> Result<Cached, AllocError>
+        requires { IsModuleOf code.now valid }
+        ensures { IfOk result (λ c. c ≡ record { code = code.now; valid = valid }) }
     {
         let code = Bytes::from_slice(alloc, code)?;
-        Ok(Cached {
-            code,
-            module: decoded,
-        })
+        let coded = Coded { code, valid };
+        Ok(Cached { coded })
     }
 
     /// The module, where it is this code's.
     pub fn module_of(&self, code: &[u8]) -> Option<&ValidModule>
         ensures { IfSome result (λ m. IsModuleOf code.now m.now) }
     {
-        if self.code.as_slice() == code {
-            Some(&self.module)
+        if self.coded.code.as_slice() == code {
+            Some(self.module())
         } else {
             None
         }
@@ -61,18 +65,19 @@ impl Cached {
 
     /// The module of the code beside it.
     pub fn module(&self) -> &ValidModule
-        ensures same { result.now ≡ self.now.1 }
-        ensures decoded { IsModuleOf self.now.0 result.now }
+        ensures same { result.now ≡ self.now.valid }
+        ensures decoded { IsModuleOf self.now.code result.now }
     {
-        &self.module
+        &self.coded.valid
     }
 
     /// The module alone.
     pub fn into_module(self) -> ValidModule
-        ensures { result ≡ self.1 }
+        ensures { result ≡ self.valid }
     {
-        let Cached { code: _, module } = self;
-        module
+        let Cached { coded } = self;
+        let Coded { code: _, valid } = coded;
+        valid
     }
 }
 
