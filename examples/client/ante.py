@@ -294,10 +294,10 @@ class TransactionFailed(Exception):
     """The failure that a trace shows: its name, its number and its arguments. The text of an assertion is readable."""
 
     def __init__(self, failure):
-        self.name, self.code, self.args_of_failure = failure["name"], failure["code"], failure["args"]
+        self.name, self.code, self.details = failure["name"], failure["code"], failure["args"]
         if self.name == "Assert":
-            self.args_of_failure = [bytes.fromhex(failure["args"][0]).decode(errors="replace")]
-        super().__init__(self.name, *self.args_of_failure)
+            self.details = [bytes.fromhex(failure["args"][0]).decode(errors="replace")]
+        super().__init__(self.name, *self.details)
 
 
 def return_value(trace):

@@ -21,8 +21,10 @@ typedef struct {
     uint64_t amount;
 } holding;
 
-// The contract's account, of which it keeps all tables; the payer that stands for "whoever paid before".
+// The contract's account, under which all its tables stand.
 static name self;
+
+// Leaves a row to whoever pays for it.
 static const name same_payer = 0;
 
 static void require(bool holds, const char *refusal) {
