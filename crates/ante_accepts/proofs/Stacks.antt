@@ -2,6 +2,8 @@
 use Rattle.std.proofs.Common.{◌≡◌, ◌↔◌, ℕ, Bool, true, false, List, [], ◌∷◌, All, Option, None, Some, slice_get, refl, sym, ap, subst, ◌∙◌}
 use Rattle.std.specs.Bool.{Decides}
 use Rattle.std.specs.List.{list_all}
+use Rattle.std.specs.Option.{option_and_then}
+use Rattle.std.proofs.lemmas.Bool.Decides.{Decides-and, Decides-by_and, not_from_Decides}
 use Rattle.ante_wtree.specs.declared.instructions.ValueKind.{ValueKind}
 use Rattle.ante_wtree.specs.declared.instructions.ValueKind.TheVariants.{I32, I64}
 use Rattle.ante_wtree.specs.declared.modules.FuncType.{FuncType}
@@ -10,8 +12,7 @@ use Rattle.ante_wvalid.specs.declared.operand_types.OperandTypes.{OperandTypes}
 use Rattle.ante_wvalid.specs.Typing.{InstrType, Fixed, Drops, Selects, Unbounded, Untyped, Operands, onto, Pops, Pushes, Turns, Then, With, Where, Anything, Dropped, Selected, Moves, Leaves, LeavesIf, LeavesAmong, Calls, CallsAt}
 use Rattle.ante_wvalid.specs.OperandStacks.{MatchesKind, Matches, Admits, Carries, Joins}
 use Rattle.ante_wvalid.proofs.Carrying.{Step, Two, Found, Empty, then_no, then_yes, with_none, with_some, where_no, where_yes, pushing_first, pushing_last, pushing_more, drops_yes, drops_no, forgets, selects, selects_not, two_none, two_one, two_apart, two_yes}
-use Rattle.ante_accepts.specs.Sequences.{on_some, only_if, same_label, is_label, may_be, joined, known, anything, popped, popped_of, pop_kind, pop_all, push, push_all, admits_of, turn, drop_any, select_two, select, move, leave, leave_if, leave_among, call, call_at}
-use Rattle.ante_accepts.proofs.Deciding.{all_decides, both_decide, refused}
+use Rattle.ante_accepts.specs.Sequences.{only_if, same_label, is_label, may_be, joined, known, anything, popped, popped_of, pop_kind, pop_all, push, push_all, admits_of, turn, drop_any, select_two, select, move, leave, leave_if, leave_among, call, call_at}
 
 -- ---- kinds
 
@@ -43,7 +44,7 @@ Carried P old None = Carries P false old old
 Carried P old (Some new) = Carries P true old new
 
 pub then_carried : (P Q : Step) (old : OperandTypes) (f : Option OperandTypes) (g : OperandTypes → Option OperandTypes) → Carried P old f → ((new : OperandTypes) → Carried Q new (g new)) →
-    Carried (Then P Q) old (on_some f g)
+    Carried (Then P Q) old (option_and_then g f)
 then_carried P Q old None g p q = then_no P Q false old old old p refl
 then_carried P Q old (Some b) g p q = by (g b) (q b)
   where
@@ -52,7 +53,7 @@ then_carried P Q old (Some b) g p q = by (g b) (q b)
     by (Some d) h = then_yes P Q true true old b d p refl h
 
 pub with_carried : {A : Type 0} (found : Option A) (P : A → Step) (old : OperandTypes) (g : A → Option OperandTypes) → ((x : A) → Carried (P x) old (g x)) →
-    Carried (With found P) old (on_some found g)
+    Carried (With found P) old (option_and_then g found)
 with_carried None P old g h = with_none None P old old refl
 with_carried (Some x) P old g h = by (g x) (h x)
   where
@@ -63,7 +64,7 @@ with_carried (Some x) P old g h = by (g x) (h x)
 pub where_carried : (b : Bool) (A : Type 0) → Decides b A → (P : Step) (old : OperandTypes) (f : Option OperandTypes) → Carried P old f → Carried (Where A P) old (only_if b f)
 where_carried true A d P old None k = where_yes A P false old old (d.0 refl) k
 where_carried true A d P old (Some new) k = where_yes A P true old new (d.0 refl) k
-where_carried false A d P old f k = where_no A P old old (refused false d refl)
+where_carried false A d P old f k = where_no A P old old (not_from_Decides false d refl)
 
 same_carried : (P Q : Step) → ((s t : Operands) → P s t ↔ Q s t) → (old : OperandTypes) (f : Option OperandTypes) → Carried P old f → Carried Q old f
 same_carried P Q iff old None h = λ s t o q. h s t o ((iff s t).1 q)
@@ -90,7 +91,7 @@ pops_known k (x ∷ xs) b = by (may_be x k) (may_be_decides x k)
       to = λ r. (subst (Matches (x ∷ xs) b) r.2 r.1).1;
       from = λ o. (k ∷ t, (d.0 refl, o), refl);
     }
-    by false d = λ s t o p. refused false d refl (subst (Matches (x ∷ xs) b) p o).0
+    by false d = λ s t o p. not_from_Decides false d refl (subst (Matches (x ∷ xs) b) p o).0
 
 pops_kind : (k : ValueKind) (o : OperandTypes) → Carried (Pops (k ∷ [])) o (pop_kind k o)
 pops_kind k o = pops_known k o.kinds o.bottomless
@@ -130,7 +131,7 @@ popped_is o = popped_known o.kinds o.bottomless
 drops : (o : OperandTypes) → Carried Dropped o (drop_any o)
 drops o = by (popped o) (popped_is o)
   where
-    by : (f : Option (Option ValueKind × OperandTypes)) → Popped o f → Carried Dropped o (on_some f (λ p. Some p.1))
+    by : (f : Option (Option ValueKind × OperandTypes)) → Popped o f → Carried Dropped o (option_and_then (λ p. Some p.1) f)
     by None h = drops_no o o h
     by (Some p) h = drops_yes p.0 o p.1 h
 
@@ -141,23 +142,23 @@ joined_is (Some j) (Some k) = by (same_kind j k) (same_kind_decides j k)
   where
     by : (y : Bool) → Decides y (j ≡ k) → Joins (Some j) (Some k) (only_if y (Some (Some j)))
     by true d = λ x. record { to = λ r. r.0; from = λ m. (m, m ∙ d.0 refl) }
-    by false d = λ x a b. refused false d refl (sym a ∙ b)
+    by false d = λ x a b. not_from_Decides false d refl (sym a ∙ b)
 
 two_carried : (o : OperandTypes) → Carried Two o (select_two o)
 two_carried o = by (popped o) (popped_is o)
   where
     by_kind : (two one : Option ValueKind × OperandTypes) → Found two.0 o two.1 → Found one.0 two.1 one.1 → (f : Option (Option ValueKind)) → Joins one.0 two.0 f →
-        Carried Two o (on_some f (λ both. Some (push both one.1)))
+        Carried Two o (option_and_then (λ both. Some (push both one.1)) f)
     by_kind two one h k None j = two_apart two.0 one.0 o two.1 one.1 o h k j
     by_kind two one h k (Some both) j = two_yes two.0 one.0 both o two.1 one.1 (push both one.1) h k j refl refl
 
     by_second : (two : Option ValueKind × OperandTypes) → Found two.0 o two.1 → (f : Option (Option ValueKind × OperandTypes)) → Popped two.1 f →
-        Carried Two o (on_some f (λ one. on_some (joined one.0 two.0) (λ both. Some (push both one.1))))
+        Carried Two o (option_and_then (λ one. option_and_then (λ both. Some (push both one.1)) (joined one.0 two.0)) f)
     by_second two h None k = two_one two.0 o two.1 o h k
     by_second two h (Some one) k = by_kind two one h k (joined one.0 two.0) (joined_is one.0 two.0)
 
     by : (f : Option (Option ValueKind × OperandTypes)) → Popped o f →
-        Carried Two o (on_some f (λ two. on_some (popped two.1) (λ one. on_some (joined one.0 two.0) (λ both. Some (push both one.1)))))
+        Carried Two o (option_and_then (λ two. option_and_then (λ one. option_and_then (λ both. Some (push both one.1)) (joined one.0 two.0)) (popped two.1)) f)
     by None h = two_none o o h
     by (Some two) h = by_second two h (popped two.1) (popped_is two.1)
 
@@ -168,7 +169,7 @@ selected o = by (pop_kind I32 o) (pops_kind I32 o)
     by_two b h None k = selects true false o b o h refl k
     by_two b h (Some d) k = selects true true o b d h refl k
 
-    by : (f : Option OperandTypes) → Carried (Pops (I32 ∷ [])) o f → Carried Selected o (on_some f select_two)
+    by : (f : Option OperandTypes) → Carried (Pops (I32 ∷ [])) o f → Carried Selected o (option_and_then select_two f)
     by None h = selects_not false o o o h refl
     by (Some b) h = by_two b h (select_two b) (two_carried b)
 
@@ -191,8 +192,9 @@ leaves_if label o =
 pub leaves_among : (labels : List (Option ValueKind)) (targets : List ℕ) (label : Option ValueKind) (o : OperandTypes) → Carried (LeavesAmong labels targets label) o (leave_among labels targets label o)
 leaves_among labels targets label o =
     where_carried (list_all (λ k. is_label label (slice_get labels k)) targets) (All (λ k. slice_get labels k ≡ Some label) targets)
-    (all_decides (λ k. is_label label (slice_get labels k)) (λ k. slice_get labels k ≡ Some label) (λ k. is_label_decides label (slice_get labels k)) targets)
-    (Then (Pops (I32 ∷ [])) (Leaves label)) o (on_some (pop_kind I32 o) (leave label))
+    (Decides-by_and (λ k. is_label label (slice_get labels k)) (λ k. slice_get labels k ≡ Some label) (list_all (λ k. is_label label (slice_get labels k)))
+    (λ k. is_label_decides label (slice_get labels k)) refl (λ k ks. refl) targets)
+    (Then (Pops (I32 ∷ [])) (Leaves label)) o (option_and_then (leave label) (pop_kind I32 o))
     (then_carried (Pops (I32 ∷ [])) (Leaves label) o (pop_kind I32 o) (leave label) (pops_kind I32 o) (leaves label))
 
 pub calls_at : (t : FuncType) (o : OperandTypes) → Carried (CallsAt t) o (call_at t o)
@@ -205,4 +207,4 @@ admits_decides [] true stack = (λ t. tt, λ m. refl)
 admits_decides [] false [] = (λ t. refl, λ m. refl)
 admits_decides [] false (k ∷ stack) = (λ t. cc, λ m. cc)
 admits_decides (x ∷ kinds) b [] = (λ t. cc, λ m. absurd m)
-admits_decides (x ∷ kinds) b (k ∷ stack) = both_decide (may_be x k) (admits_of kinds b stack) (may_be_decides x k) (admits_decides kinds b stack)
+admits_decides (x ∷ kinds) b (k ∷ stack) = Decides-and (may_be x k) (admits_of kinds b stack) (may_be_decides x k) (admits_decides kinds b stack)

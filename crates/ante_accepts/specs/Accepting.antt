@@ -21,7 +21,7 @@ use Rattle.ante_wdecode.specs.Decoding.{module_at}
 use Rattle.ante_wdecode.specs.Rules.{Fault}
 use Rattle.ante_wvalid.specs.Modules.{constant_kind, context_of, count, function_types, is_there}
 use Rattle.ante_wvalid.specs.Typing.{type_numbered}
-use Rattle.ante_accepts.specs.Sequences.{is_typed, on_some}
+use Rattle.ante_accepts.specs.Sequences.{is_typed}
 use Rattle.ante_execution.specs.Codes.{codes_with}
 use Rattle.ante_execution.specs.Runs.{Codes}
 
@@ -52,7 +52,7 @@ host_has i (Some t) = list_any (is_host i t) host_functions
 
 -- it is a function of the module `env` with the type that hosts give the function of its name
 abbrev pub is_import : List FuncType → Import → Bool
-is_import types i = bytes_eq i.module (codes "env") && host_has i (on_some (number_of i.kind) (slice_get types))
+is_import types i = bytes_eq i.module (codes "env") && host_has i (type_numbered types (number_of i.kind))
 
 -- ---- the rest of a module
 
