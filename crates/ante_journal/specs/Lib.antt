@@ -1,0 +1,2 @@
+-- what happens to links and requests
+pub mod Desk
