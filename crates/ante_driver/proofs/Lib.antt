@@ -5,3 +5,5 @@ pub mod Runs
 pub mod Paired
 pub mod Steps
 pub mod Went
+pub mod Small
+pub mod Taken

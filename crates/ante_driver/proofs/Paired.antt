@@ -54,3 +54,11 @@ calm_new slots slots' queue links s p e o = record {
     free = waits_past (length slots) queue (subst (λ (k : ℕ). Numbered k queue) (sym p.same) p.numbered);
   };
 }
+
+numbered_push : (n : ℕ) (queue : List Waiting) (w : Waiting) → w.link < n → Numbered n queue → Numbered n (queue ++ w ∷ [])
+numbered_push n [] w h p = (h, tt)
+numbered_push n (x ∷ queue) w h p = (p.0, numbered_push n queue w h p.1)
+
+pub paired_push : (slots : List Slot) (queue queue' : List Waiting) (links : List LinkState) (w : Waiting) → IsPaired slots queue links → w.link < length slots → queue' ≡ queue ++ w ∷ [] → IsPaired slots queue' links
+paired_push slots queue queue' links w p h e =
+    record { same = p.same; few = p.few; numbered = subst (Numbered (length links)) (sym e) (numbered_push (length links) queue w (omega (arith, p.same)) p.numbered) }

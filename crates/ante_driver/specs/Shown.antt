@@ -45,6 +45,14 @@ pub record HasCalmLast (slots : List Slot) (queue : List Waiting) : Type 0 where
   pub is_last : suc place ≡ length slots
   pub calm : IsCalm place slots queue
 
+-- It is calm, and its last reply doesn't close it.
+pub record IsIdle (n : ℕ) (slots : List Slot) (queue : List Waiting) : Type 0 where
+  pub slot : Slot
+  pub there : slice_get slots n ≡ Some slot
+  pub is_open : slot.is_open ≡ true
+  pub goes_on : slot.is_last ≡ false
+  pub free : waits n queue ≡ false
+
 -- The journal has grown by a run from one desk to another.
 pub record Leads (s : Desk) (journal : List NodeEvent) (t : Desk) (grown : List NodeEvent) : Type 0 where
   pub moves : List Move

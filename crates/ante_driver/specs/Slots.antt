@@ -16,6 +16,13 @@ pub record Splits (front : List ℕ) (count : ℕ) (close : Bool) (old new : Slo
   pub is_open : new.is_open ≡ old.is_open
   pub is_last : new.is_last ≡ close
 
+-- A request is taken, and perhaps answered.
+pub record Takes (count : ℕ) (close : Bool) (said : List ℕ) (old new : Slot) : Type 0 where
+  pub held : new.held.items ≡ drop count old.held.items
+  pub output : new.output.items ≡ old.output.items ++ said
+  pub is_open : new.is_open ≡ old.is_open
+  pub is_last : new.is_last ≡ close
+
 -- A reply more is to be written.
 pub record Says (reply : List ℕ) (old new : Slot) : Type 0 where
   pub held : new.held.items ≡ old.held.items

@@ -7,9 +7,11 @@ mod front;
 mod reading;
 mod sending;
 mod slots;
+mod taking;
 
 pub use accepting::accept_one;
 pub use closing::close;
 pub use front::{Front, Slot, Stop};
 pub use reading::read_once;
 pub use sending::send_replies;
+pub use taking::take_one;

@@ -1,12 +1,12 @@
 -- What happens to links and their requests, whatever the chain is.
-use Rattle.std.specs.Prelude.{◌≡◌, ◌≢◌, ℕ, suc, ◌+◌, ◌==◌, nat_lt, ◌⊎◌, Bool, true, false, ◌||◌, if◌then◌else◌, List, [], ◌∷◌, ◌++◌, length, take, drop, slice_get, slice_set, Option, Some, None, Ok, Err}
+use Rattle.std.specs.Prelude.{◌≡◌, ℕ, suc, ◌+◌, ◌==◌, nat_lt, ◌⊎◌, Bool, true, false, ◌||◌, if◌then◌else◌, List, [], ◌∷◌, ◌++◌, length, take, drop, slice_get, slice_set, Option, Some, None, Ok, Err}
 use Rattle.ante_links.specs.Links.{Waits}
 use Rattle.ante_http.specs.declared.answer.RequestSpan.{RequestSpan}
 use Rattle.ante_http.specs.declared.answer.HeadKind.{HeadKind}
 use Rattle.ante_http.specs.Requests.{IsRequest, IsBad}
 use Rattle.ante_json.specs.declared.request.ApiRequest.{ApiRequest}
 use Rattle.ante_json.specs.declared.fault.ApiFault.{ApiFault}
-use Rattle.ante_json.specs.declared.fault.ApiFault.TheVariants.{OutOfMemory}
+use Rattle.ante_json.specs.declared.fault.ApiFault.TheVariants as faults
 use Rattle.ante_api.specs.declared.reply.ApiReply.TheVariants.{Fault}
 use Rattle.ante_api.specs.Routes.{Routes, head_fault}
 use Rattle.ante_api.specs.Rendered.{rendered}
@@ -106,7 +106,7 @@ with_peer n p d = record d { peers = slice_set d.peers n p }
 
 -- the reply to a request for which memory was wanted
 abbrev pub starved : (close : Bool) → List ℕ
-starved close = rendered (Fault OutOfMemory) close
+starved close = rendered (Fault faults.OutOfMemory) close
 
 -- what becomes of a request when it is taken
 pub data Asking : Type 0 where
@@ -115,10 +115,23 @@ pub data Asking : Type 0 where
   -- its fault is answered at once
   refused : ApiFault → Asking
 
+-- memory was wanted
+abbrev pub wants_memory : ApiFault → Bool
+wants_memory faults.OutOfMemory = true
+wants_memory (faults.BadHead kind) = false
+wants_memory (faults.BadBody kind) = false
+wants_memory faults.UnknownPath = false
+wants_memory faults.UnknownBlock = false
+wants_memory faults.UnknownAccount = false
+wants_memory (faults.TooLarge length) = false
+wants_memory (faults.Ahead seen last) = false
+wants_memory faults.NotProducing = false
+wants_memory (faults.Push why) = false
+
 abbrev pub Asks : List ℕ → RequestSpan → Asking → Type 0
 Asks bytes span (waiting (Some request)) = Routes bytes span (Ok request)
 Asks bytes span (waiting None) = Unit {0}
-Asks bytes span (refused fault) = Routes bytes span (Err fault) × (fault ≢ OutOfMemory)
+Asks bytes span (refused fault) = Routes bytes span (Err fault) × (wants_memory fault ≡ false)
 
 abbrev pub said_by : Asking → (close : Bool) → List ℕ
 said_by (waiting asked) close = []
