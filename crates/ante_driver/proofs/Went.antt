@@ -14,7 +14,7 @@ use Rattle.ante_journal.specs.Desk.{Peer, Desk, Stage, accepting, taking, sendin
 use Rattle.ante_driver.specs.declared.front.Slot.{Slot}
 use Rattle.ante_driver.specs.declared.front.Stop.{Stop}
 use Rattle.ante_driver.specs.declared.front.Front.{Front}
-use Rattle.ante_driver.specs.Shown.{peers_of, desk_with, desk_of, IsPaired, IsPairedFront, IsCalm, HasCalmLast, Leads, Served, AreWritten, Went, StaysPaired}
+use Rattle.ante_driver.specs.Shown.{peers_of, desk_with, desk_of, IsPaired, IsPairedFront, IsCalm, IsIdle, HasCalmLast, Leads, Served, AreWritten, Went, StaysPaired}
 use Rattle.ante_driver.specs.Slots.{Holds, Shuts, Sends, open_slots}
 use Rattle.ante_driver.specs.Fronts.{AddsSlot, KeepsRest, HoldsBytes, ShutsSlot, SendsFront, stage_with}
 use Rattle.ante_driver.proofs.Places.{length-change, set_there}
@@ -116,9 +116,24 @@ calm_kept old new n How i d o q =
       free = ap (λ x. waits n x.items) q ∙ i.free;
     }
 
-pub fill_calm : {A : Type 0} (old new : Front) (n : ℕ) (bytes : List ℕ) (r : Result A Stop) → IsCalm n old.slots.items old.queue.items → OnOk r (HoldsBytes old n bytes new) → OnOk r (IsCalm n new.slots.items new.queue.items)
-fill_calm old new n bytes (Ok v) i h = calm_kept old new n (Holds bytes) i h.slots (h.slots).how.is_open h.rest.queue
-fill_calm old new n bytes (Err x) i h = tt
+pub fill_idle : {A : Type 0} (old new : Front) (n : ℕ) (bytes : List ℕ) (r : Result A Stop) → IsIdle n old.slots.items old.queue.items → OnOk r (HoldsBytes old n bytes new) → OnOk r (IsIdle n new.slots.items new.queue.items)
+fill_idle old new n bytes (Ok v) i h =
+    let d = h.slots in
+    let b : d.before ≡ i.slot = same_Some d.before i.slot (sym d.there ∙ i.there) in
+    record {
+      slot = d.after;
+      there = set_there n old.slots.items new.slots.items (Holds bytes) d;
+      is_open = d.how.is_open ∙ ap (λ (x : Slot). x.is_open) b ∙ i.is_open;
+      goes_on = d.how.is_last ∙ ap (λ (x : Slot). x.is_last) b ∙ i.goes_on;
+      free = ap (λ x. waits n x.items) h.rest.queue ∙ i.free;
+    }
+fill_idle old new n bytes (Err x) i h = tt
+
+pub idle_in : (slots slots' : List Slot) (queue queue' : List Waiting) (n : ℕ) → slots' ≡ slots → queue' ≡ queue → IsIdle n slots' queue' → IsIdle n slots queue
+idle_in slots slots' queue queue' n p q i = subst (λ x. IsIdle n x queue) p (subst (λ y. IsIdle n slots' y) q i)
+
+pub calm_of : (slots : List Slot) (queue : List Waiting) (n : ℕ) → IsIdle n slots queue → IsCalm n slots queue
+calm_of slots queue n i = record { slot = i.slot; there = i.there; is_open = i.is_open; free = i.free }
 
 -- a call that moved no byte
 pub moved_none : (come come' : List (Option (List ℕ))) (links links' : List LinkState) (f : Front) (stage : Stage) (n : ℕ) (How : LinkState → LinkState → Type 0) → come' ≡ come → (d : Changes n links links' How) → (d.after).left ≡ (d.before).left → (d.after).written ≡ (d.before).written →

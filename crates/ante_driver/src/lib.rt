@@ -6,6 +6,7 @@ mod closing;
 mod front;
 mod reading;
 mod sending;
+mod serving;
 mod slots;
 mod taking;
 
@@ -14,4 +15,5 @@ pub use closing::close;
 pub use front::{Front, Slot, Stop};
 pub use reading::read_once;
 pub use sending::send_replies;
+pub use serving::serve_links;
 pub use taking::take_one;

@@ -3,7 +3,7 @@
 ghost use Rattle.std.specs.Prelude.{◌≡◌, ◌<◌, length, OnOk, OnErr};
 ghost use Rattle.ante_links.specs.Links.{read_room};
 ghost use Rattle.ante_journal.specs.Desk.{taking};
-ghost use Rattle.ante_driver.specs.Shown.{IsCalm, IsPairedFront, StaysPaired, Went, desk_of};
+ghost use Rattle.ante_driver.specs.Shown.{IsIdle, IsPairedFront, StaysPaired, Went, desk_of};
 ghost use Rattle.ante_driver.specs.Fronts.{HoldsBytes};
 
 use crate::front::{Front, Stop};
@@ -28,10 +28,11 @@ pub fn read_once<L: Links>(
     buffer: &mut [u8],
 ) -> Result<bool, Stop>
     requires paired { IsPairedFront front.old (L.links links.old) }
-    requires calm { IsCalm link front.old.slots.items front.old.queue.items }
+    requires idle { IsIdle link front.old.slots.items front.old.queue.items }
     requires room { length buffer.old ≡ read_room }
     ensures paired { StaysPaired front.new (L.links links.new) result }
-    ensures calm { OnOk result (IsCalm link front.new.slots.items front.new.queue.items) }
+    ensures idle { OnOk result (IsIdle link front.new.slots.items front.new.queue.items) }
+    ensures room { length buffer.new ≡ read_room }
     ensures went { Went L.tells (desk_of (L.to_come links.old) (L.links links.old) front.old taking) front.old.journal.items (desk_of (L.to_come links.new) (L.links links.new) front.new taking) front.new.journal.items (L.links links.new) result }
 {
     match links.read(LinkId(link), buffer) {

@@ -164,7 +164,7 @@ pub fn split(
     Ok(taken)
 }
 
-/// Whether nothing waits on the open link, and its last reply doesn't close it.
+/// Whether nothing waits on the open link, and its last reply is written and doesn't close it.
 pub fn is_idle(slots: &[Slot], queue: &[Waiting], link: u32) -> bool
     requires { link < length slots.now }
     ensures { IsTrue result → IsIdle link slots.now queue.now }
@@ -174,6 +174,9 @@ pub fn is_idle(slots: &[Slot], queue: &[Waiting], link: u32) -> bool
         return false;
     }
     if slot.is_last {
+        return false;
+    }
+    if !slot.output.as_slice().is_empty() {
         return false;
     }
     if waits(queue, link) {

@@ -2,15 +2,15 @@ use Rattle.std.proofs.Common.{ap}
 use Rattle.ante_links.specs.LinkStates.{LinkState}
 use Rattle.ante_journal.specs.Desk.{taking}
 use Rattle.ante_driver.proofs.Paired.{same_paired}
-use Rattle.ante_driver.proofs.Went.{fill_went, fill_paired, fill_calm, moved_none}
+use Rattle.ante_driver.proofs.Went.{fill_went, fill_paired, fill_idle, moved_none}
 use Rattle.ante_driver.proofs.reading.read_once.Goals as goal
 
 pub returns-in-Bytes-clause-paired : goal.returns-in-Bytes-clause-paired
 returns-in-Bytes-clause-paired g c =
     fill_paired (g.L.Links.links c.args.links.now) (g.L.Links.links c.read.new.self) c.args.front.now c.hold_bytes.new.front c.args.link _ _ c.hold_bytes.result c.requires.paired c.in-Bytes.ensures.change c.hold_bytes.ensures.ok
 
-pub returns-in-Bytes-clause-calm : goal.returns-in-Bytes-clause-calm
-returns-in-Bytes-clause-calm g c = fill_calm c.args.front.now c.hold_bytes.new.front c.args.link _ c.hold_bytes.result c.requires.calm c.hold_bytes.ensures.ok
+pub returns-in-Bytes-clause-idle : goal.returns-in-Bytes-clause-idle
+returns-in-Bytes-clause-idle g c = fill_idle c.args.front.now c.hold_bytes.new.front c.args.link _ c.hold_bytes.result c.requires.idle c.hold_bytes.ensures.ok
 
 pub returns-in-Bytes-clause-went : goal.returns-in-Bytes-clause-went
 returns-in-Bytes-clause-went g c =
