@@ -1,5 +1,5 @@
 -- Each slot keeps its link.
-use Rattle.std.proofs.Common.{◌≡◌, ℕ, zero, suc, ◌+◌, ◌<◌, ◌≤◌, ◌==◌, ◌||◌, Bool, true, false, List, [], ◌∷◌, ◌++◌, length, slice_get, Some, sym, ap, ◌∙◌, subst, refl, arith}
+use Rattle.std.proofs.Common.{◌≡◌, ℕ, ◌+◌, ◌<◌, ◌≤◌, true, false, List, [], ◌∷◌, ◌++◌, length, slice_get, Some, sym, ap, ◌∙◌, subst, refl, arith}
 use Rattle.std.proofs.lemmas.List.{length-append}
 use Rattle.std.specs.List.{AllByRecursion}
 use Rattle.ante_links.specs.LinkStates.{LinkState}
@@ -7,7 +7,7 @@ use Rattle.ante_links.specs.Links.{Changes}
 use Rattle.ante_journal.specs.declared.waiting.Waiting.{Waiting}
 use Rattle.ante_journal.specs.Desk.{waits}
 use Rattle.ante_driver.specs.declared.front.Slot.{Slot}
-use Rattle.ante_driver.specs.Shown.{IsPaired, IsCalm, HasCalmLast}
+use Rattle.ante_driver.specs.Shown.{IsPaired, HasCalmLast}
 use Rattle.ante_driver.proofs.Places.{length-change}
 
 abbrev Numbered : ℕ → List Waiting → Type 0

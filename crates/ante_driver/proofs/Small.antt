@@ -1,5 +1,5 @@
 -- A request, or as much of bytes as is Bad, has fewer than 2^32 bytes.
-use Rattle.std.proofs.Common.{◌≡◌, ℕ, ◌+◌, ◌<◌, ◌≤◌, ◌⊎◌, inl, inr, nat_lt, not, Bool, true, false, List, ◌++◌, length, take, drop, subst, Result, Ok, Err, if◌then◌else◌, codes, refl, sym, ap, ◌∙◌, arith}
+use Rattle.std.proofs.Common.{◌≡◌, ℕ, ◌<◌, ◌≤◌, inl, inr, nat_lt, not, Bool, true, false, List, ◌++◌, take, drop, subst, Result, Ok, Err, if◌then◌else◌, codes, refl, sym, ◌∙◌, arith}
 use Rattle.std.proofs.lemmas.Bool.Decides.{nat_tests}
 use Rattle.std.specs.List.{list_any}
 use Rattle.ante_http.specs.declared.answer.RequestSpan.{RequestSpan}
@@ -7,7 +7,7 @@ use Rattle.ante_http.specs.declared.answer.HeadKind.{HeadKind}
 use Rattle.ante_http.specs.declared.answer.HeadKind.TheVariants.{Method, Encoding, TooLarge}
 use Rattle.ante_http.specs.declared.fields.ContentLength.{ContentLength}
 use Rattle.ante_http.specs.declared.fields.ContentLength.TheVariants.{Absent, Given, Invalid}
-use Rattle.ante_http.specs.Fields.{accepted, body_length, content_length, is_method, is_named}
+use Rattle.ante_http.specs.Fields.{accepted, content_length, is_method, is_named}
 use Rattle.ante_http.specs.Limits.{most_body_bytes, most_head_bytes}
 use Rattle.ante_http.specs.Requests.{IsRequest, IsBad, fields_of}
 use Rattle.ante_http.proofs.Framed.{end_in}

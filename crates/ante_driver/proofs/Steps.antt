@@ -1,5 +1,5 @@
 -- What each change of the driver's data is in the run.
-use Rattle.std.proofs.Common.{◌≡◌, ℕ, zero, suc, ◌+◌, ◌<◌, ◌≤◌, nat_lt, nat_le, Bool, true, false, IsTrue, List, [], ◌∷◌, ◌++◌, length, take, drop, Option, Some, slice_get, slice_set, Result, Ok, Err, if◌then◌else◌, sym, ap, ◌∙◌, subst, refl, arith, append_assoc}
+use Rattle.std.proofs.Common.{◌≡◌, ℕ, zero, suc, nat_lt, nat_le, Bool, true, false, List, [], ◌∷◌, ◌++◌, length, take, drop, Option, Some, slice_get, slice_set, Ok, if◌then◌else◌, sym, ap, ◌∙◌, subst, refl, arith, append_assoc}
 use Rattle.std.proofs.lemmas.List.{take-append-drop}
 use Rattle.std.proofs.lemmas.Bool.Decides.{nat_tests}
 use Rattle.std.proofs.lemmas.Option.{none-some, same_Some}
@@ -7,11 +7,11 @@ use Rattle.ante_links.specs.LinkStates.{LinkState, fresh_link}
 use Rattle.ante_links.specs.Links.{Changes}
 use Rattle.ante_journal.specs.declared.event.NodeEvent.TheVariants as event
 use Rattle.ante_journal.specs.declared.waiting.Waiting.{Waiting}
-use Rattle.ante_journal.specs.Desk.{Peer, new_peer, Desk, Stage, accepting, crowded, taking, answering, writing, window, sending, DeskRow, Closes, stage_after, count_open, most_open}
+use Rattle.ante_journal.specs.Desk.{Peer, new_peer, Stage, accepting, crowded, taking, DeskRow, Closes, stage_after, most_open}
 use Rattle.ante_driver.specs.declared.front.Slot.{Slot}
 use Rattle.ante_driver.specs.declared.front.Stop.{Stop}
 use Rattle.ante_driver.specs.declared.front.Front.{Front}
-use Rattle.ante_driver.specs.Shown.{peer_of, peers_of, desk_with, desk_of, IsCalm}
+use Rattle.ante_driver.specs.Shown.{peer_of, peers_of, desk_with, IsCalm}
 use Rattle.ante_driver.specs.Slots.{Holds, Shuts, Sends, open_slots}
 use Rattle.ante_driver.specs.Fronts.{KeepsRest, stage_with}
 use Rattle.ante_driver.proofs.Peers.{peer_is, peers_get, peers_length, peers_open, peers_set_slot, peers_same, peers_push, new_is}

@@ -1,8 +1,7 @@
 -- Taking what the bytes of a link begin with is the row of the event.
-use Rattle.std.proofs.Common.{◌≡◌, ℕ, zero, suc, ◌+◌, ◌<◌, ◌≤◌, Bool, true, false, nat_lt, IsTrue, List, [], ◌∷◌, ◌++◌, length, take, drop, Option, Some, slice_get, slice_set, Result, Ok, Err, OnOk, OnErr, if◌then◌else◌, sym, ap, ◌∙◌, subst, refl, arith, append_assoc}
+use Rattle.std.proofs.Common.{◌≡◌, ℕ, zero, suc, ◌<◌, Bool, true, List, [], ◌∷◌, ◌++◌, length, take, drop, Option, Some, slice_get, slice_set, Result, Ok, Err, OnOk, OnErr, sym, ap, ◌∙◌, subst, refl, arith, append_assoc}
 use Rattle.std.proofs.lemmas.List.{append-nil, take-append-le, drop-append-le}
 use Rattle.std.proofs.lemmas.Option.{same_Some, slice_get_within}
-use Rattle.std.specs.List.{AllByRecursion}
 use Rattle.ante_links.specs.LinkStates.{LinkState}
 use Rattle.ante_links.specs.Links.{Changes}
 use Rattle.ante_http.specs.declared.answer.RequestSpan.{RequestSpan}
@@ -14,16 +13,15 @@ use Rattle.ante_json.specs.declared.fault.ApiFault.{ApiFault}
 use Rattle.ante_api.specs.declared.reply.ApiReply.TheVariants.{Fault}
 use Rattle.ante_api.specs.Routes.{Routes, head_fault}
 use Rattle.ante_api.specs.Rendered.{rendered}
-use Rattle.ante_journal.specs.declared.event.NodeEvent.{NodeEvent}
 use Rattle.ante_journal.specs.declared.event.NodeEvent.TheVariants as event
 use Rattle.ante_journal.specs.declared.waiting.Waiting.{Waiting}
-use Rattle.ante_journal.specs.Desk.{Peer, Desk, Stage, taking, DeskRow, Asking, waiting, refused, Asks, said_by, queued_by, IsFree}
+use Rattle.ante_journal.specs.Desk.{Peer, taking, DeskRow, Asking, waiting, refused, Asks, said_by, queued_by, IsFree}
 use Rattle.ante_driver.specs.declared.front.Slot.{Slot}
 use Rattle.ante_driver.specs.declared.front.Stop.{Stop}
 use Rattle.ante_driver.specs.declared.front.Front.{Front}
-use Rattle.ante_driver.specs.Shown.{peer_of, peers_of, desk_with, desk_of, IsPaired, IsPairedFront, IsIdle, Leads, Served, Went, StaysPaired}
+use Rattle.ante_driver.specs.Shown.{peer_of, peers_of, desk_with, desk_of, IsPaired, IsPairedFront, IsIdle, Leads, Went, StaysPaired}
 use Rattle.ante_driver.specs.Slots.{Splits, Takes, Says, SaysLast}
-use Rattle.ante_driver.specs.Fronts.{KeepsRest, BeginsWith, IsBadAt, QueuesUp, Refuses, AnswersBad}
+use Rattle.ante_driver.specs.Fronts.{BeginsWith, IsBadAt, QueuesUp, Refuses, AnswersBad}
 use Rattle.ante_driver.proofs.Places.{length-change, set_there}
 use Rattle.ante_driver.proofs.Runs.{leads_one, served_stay}
 use Rattle.ante_driver.proofs.Peers.{peer_is, peers_get, peers_set_slot, written-peers}
@@ -85,15 +83,21 @@ taken come links slots slots' queue queue' turn took n count span front asking s
     let p : Peer = peer_of idle.slot k.0 in
     let after : Peer = record { rest = drop count (held ++ left); is_open = p.is_open; is_last = span.close; said = p.said ++ said_by asking span.close } in
     let e : peer_of c.after k.0 ≡ after = peer_is (peer_of c.after k.0) after
-      (ap (λ (x : List ℕ). x ++ left) (c.how.held ∙ ap (λ (x : Slot). drop count x.held.items) b) ∙ sym (drop-append-le count held left whole.whole))
-      (c.how.is_open ∙ ap (λ (x : Slot). x.is_open) b) c.how.is_last
-      (ap (λ (x : List ℕ). (k.0).written ++ x) (c.how.output ∙ ap (λ (x : Slot). x.output.items ++ said_by asking span.close) b) ∙ sym (append_assoc (k.0).written (idle.slot).output.items (said_by asking span.close))) in
+    (ap (λ (x : List ℕ). x ++ left) (c.how.held ∙ ap (λ (x : Slot). drop count x.held.items) b) ∙ sym (drop-append-le count held left whole.whole))
+    (c.how.is_open ∙ ap (λ (x : Slot). x.is_open) b) c.how.is_last
+    (ap (λ (x : List ℕ). (k.0).written ++ x) (c.how.output ∙ ap (λ (x : Slot). x.output.items ++ said_by asking span.close) b) ∙ sym (append_assoc (k.0).written (idle.slot).output.items (said_by asking span.close))) in
     let ps : peers_of slots' links ≡ slice_set (peers_of slots links) n after =
-      ap (λ (x : List Slot). peers_of x links) c.is ∙ peers_set_slot slots links n c.after k.0 k.1 ∙ ap (λ (x : Peer). slice_set (peers_of slots links) n x) e in
-    let t : front ≡ take count (held ++ left) = f ∙ sym (take-append-le count held left whole.whole) in
-    (p, span, asking, free_of come links slots queue turn took n k.0 idle k.1, request-append held left span count whole, subst (λ (x : List ℕ). Asks x span asking) t asks,
+    ap (λ (x : List Slot). peers_of x links) c.is ∙ peers_set_slot slots links n c.after k.0 k.1 ∙ ap (λ (x : Peer). slice_set (peers_of slots links) n x) e in
+    let t : front ≡ take count (held ++ left) = f ∙ sym (take-append-le count held left whole.whole) in (
+      p,
+      span,
+      asking,
+      free_of come links slots queue turn took n k.0 idle k.1,
+      request-append held left span count whole,
+      subst (λ (x : List ℕ). Asks x span asking) t asks,
       ap (λ (x : List Peer). desk_with come x queue' turn true taking) ps
-      ∙ ap (λ (x : List Waiting). desk_with come (slice_set (peers_of slots links) n after) x turn true taking) q)
+          ∙ ap (λ (x : List Waiting). desk_with come (slice_set (peers_of slots links) n after) x turn true taking) q,
+    )
 
 -- or they are Bad
 pub was_bad : (come : List (Option (List ℕ))) (links : List LinkState) (slots slots' : List Slot) (queue : List Waiting) (turn : ℕ) (took : Bool) (n count : ℕ) (kind : HeadKind) →
@@ -106,11 +110,11 @@ was_bad come links slots slots' queue turn took n count kind same idle bad c =
     let p : Peer = peer_of idle.slot k.0 in
     let after : Peer = record { rest = p.rest; is_open = p.is_open; is_last = true; said = p.said ++ reply } in
     let e : peer_of c.after k.0 ≡ after = peer_is (peer_of c.after k.0) after
-      (ap (λ (x : List ℕ). x ++ (k.0).left) (c.how.held ∙ ap (λ (x : Slot). x.held.items) b))
-      (c.how.is_open ∙ ap (λ (x : Slot). x.is_open) b) c.how.is_last
-      (ap (λ (x : List ℕ). (k.0).written ++ x) (c.how.output ∙ ap (λ (x : Slot). x.output.items ++ reply) b) ∙ sym (append_assoc (k.0).written (idle.slot).output.items reply)) in
+    (ap (λ (x : List ℕ). x ++ (k.0).left) (c.how.held ∙ ap (λ (x : Slot). x.held.items) b))
+    (c.how.is_open ∙ ap (λ (x : Slot). x.is_open) b) c.how.is_last
+    (ap (λ (x : List ℕ). (k.0).written ++ x) (c.how.output ∙ ap (λ (x : Slot). x.output.items ++ reply) b) ∙ sym (append_assoc (k.0).written (idle.slot).output.items reply)) in
     let ps : peers_of slots' links ≡ slice_set (peers_of slots links) n after =
-      ap (λ (x : List Slot). peers_of x links) c.is ∙ peers_set_slot slots links n c.after k.0 k.1 ∙ ap (λ (x : Peer). slice_set (peers_of slots links) n x) e in
+    ap (λ (x : List Slot). peers_of x links) c.is ∙ peers_set_slot slots links n c.after k.0 k.1 ∙ ap (λ (x : Peer). slice_set (peers_of slots links) n x) e in
     (p, kind, free_of come links slots queue turn took n k.0 idle k.1, bad-append (idle.slot).held.items (k.0).left kind count bad, ap (λ (x : List Peer). desk_with come x queue turn took taking) ps)
 
 -- ---- the contracts
@@ -130,14 +134,14 @@ queue_went tells come links old mid new n count span front request (Ok v) p idle
     let b : c.before ≡ idle.slot = same_slot n old.slots.items old.queue.items c.before idle c.there in
     let asking : Asking = waiting (Some request) in
     subst (λ t. Leads (desk_of come links old taking) old.journal.items t new.journal.items)
-      (sym (ap (λ x. desk_with come (peers_of x.items links) new.queue.items new.turn new.took taking) h.slots
-        ∙ ap (λ (x : ℕ). desk_with come (peers_of mid.slots.items links) new.queue.items x new.took taking) (h.turn ∙ mt)
-        ∙ ap (λ (x : Bool). desk_with come (peers_of mid.slots.items links) new.queue.items old.turn x taking) h.took))
-      (leads_one _ _ old.journal.items new.journal.items (event.Taken n count)
-        (taken come links old.slots.items mid.slots.items old.queue.items new.queue.items old.turn old.took n count span front asking p.same idle (whole_held n count old.slots.items old.queue.items span idle w)
-          (c.how.front_is ∙ ap (λ (s : Slot). take count s.held.items) b) route (only_split old.slots.items mid.slots.items n count span.close front c)
-          (h.queue ∙ ap (λ x. x.items ++ queued_by asking n span.close) mq))
-        (h.journal ∙ ap (λ x. x.items ++ event.Taken n count ∷ []) mj))
+    (sym (ap (λ x. desk_with come (peers_of x.items links) new.queue.items new.turn new.took taking) h.slots
+    ∙ ap (λ (x : ℕ). desk_with come (peers_of mid.slots.items links) new.queue.items x new.took taking) (h.turn ∙ mt)
+    ∙ ap (λ (x : Bool). desk_with come (peers_of mid.slots.items links) new.queue.items old.turn x taking) h.took))
+    (leads_one _ _ old.journal.items new.journal.items (event.Taken n count)
+    (taken come links old.slots.items mid.slots.items old.queue.items new.queue.items old.turn old.took n count span front asking p.same idle (whole_held n count old.slots.items old.queue.items span idle w)
+    (c.how.front_is ∙ ap (λ (s : Slot). take count s.held.items) b) route (only_split old.slots.items mid.slots.items n count span.close front c)
+    (h.queue ∙ ap (λ x. x.items ++ queued_by asking n span.close) mq))
+    (h.journal ∙ ap (λ x. x.items ++ event.Taken n count ∷ []) mj))
 queue_went tells come links old mid new n count span front request (Err x) p idle w c mq mt mj route h k = λ told.
     served_stay _ old.journal.items new.journal.items links (k ∙ ap (λ x. x.items) mj) (written-peers old.slots.items links p.same)
 
@@ -150,13 +154,13 @@ refuse_went tells come links old mid new n count span front fault (Ok v) p idle 
     let b : c.before ≡ idle.slot = same_slot n old.slots.items old.queue.items c.before idle c.there in
     let asking : Asking = refused fault in
     subst (λ t. Leads (desk_of come links old taking) old.journal.items t new.journal.items)
-      (sym (ap (λ (x : ℕ). desk_with come (peers_of new.slots.items links) new.queue.items x new.took taking) (h.turn ∙ mt)
-        ∙ ap (λ (x : Bool). desk_with come (peers_of new.slots.items links) new.queue.items old.turn x taking) h.took))
-      (leads_one _ _ old.journal.items new.journal.items (event.Taken n count)
-        (taken come links old.slots.items new.slots.items old.queue.items new.queue.items old.turn old.took n count span front asking p.same idle (whole_held n count old.slots.items old.queue.items span idle w)
-          (c.how.front_is ∙ ap (λ (s : Slot). take count s.held.items) b) (route, h.other) (split_says old.slots.items mid.slots.items new.slots.items n count span.close front _ c h.slots)
-          (ap (λ x. x.items) (h.queue ∙ mq) ∙ sym (append-nil old.queue.items)))
-        (h.journal ∙ ap (λ x. x.items ++ event.Taken n count ∷ []) mj))
+    (sym (ap (λ (x : ℕ). desk_with come (peers_of new.slots.items links) new.queue.items x new.took taking) (h.turn ∙ mt)
+    ∙ ap (λ (x : Bool). desk_with come (peers_of new.slots.items links) new.queue.items old.turn x taking) h.took))
+    (leads_one _ _ old.journal.items new.journal.items (event.Taken n count)
+    (taken come links old.slots.items new.slots.items old.queue.items new.queue.items old.turn old.took n count span front asking p.same idle (whole_held n count old.slots.items old.queue.items span idle w)
+    (c.how.front_is ∙ ap (λ (s : Slot). take count s.held.items) b) (route, h.other) (split_says old.slots.items mid.slots.items new.slots.items n count span.close front _ c h.slots)
+    (ap (λ x. x.items) (h.queue ∙ mq) ∙ sym (append-nil old.queue.items)))
+    (h.journal ∙ ap (λ x. x.items ++ event.Taken n count ∷ []) mj))
 refuse_went tells come links old mid new n count span front fault (Err x) p idle w c mq mt mj route h k = λ told.
     served_stay _ old.journal.items new.journal.items links (k ∙ ap (λ x. x.items) mj) (written-peers old.slots.items links p.same)
 
@@ -168,15 +172,15 @@ queue_paired links old mid new n count close front request (Ok v) p idle c mq h 
     let q : IsPaired mid.slots.items old.queue.items links = paired_keep old.slots.items mid.slots.items old.queue.items links links p l refl in
     let within : n < length mid.slots.items = omega (arith, slice_get_within old.slots.items n idle.slot idle.there, l) in
     subst (λ x. IsPaired x.items new.queue.items links) (sym h.slots)
-      (paired_push mid.slots.items old.queue.items new.queue.items links w q within (h.queue ∙ ap (λ x. x.items ++ w ∷ []) mq))
+    (paired_push mid.slots.items old.queue.items new.queue.items links w q within (h.queue ∙ ap (λ x. x.items ++ w ∷ []) mq))
 queue_paired links old mid new n count close front request (Err x) p idle c mq h = tt
 
 pub refuse_paired : (links : List LinkState) (old mid new : Front) (n count : ℕ) (close : Bool) (front : List ℕ) (fault : ApiFault) (r : Result Bool Stop) →
     IsPairedFront old links → Changes n old.slots.items mid.slots.items (Splits front count close) → mid.queue ≡ old.queue → OnOk r (Refuses mid n count close fault new) → StaysPaired new links r
 refuse_paired links old mid new n count close front fault (Ok v) p c mq h =
     subst (λ q. IsPaired new.slots.items q.items links) (sym (h.queue ∙ mq))
-      (paired_keep old.slots.items new.slots.items old.queue.items links links p
-        (length-change n mid.slots.items new.slots.items _ h.slots ∙ length-change n old.slots.items mid.slots.items (Splits front count close) c) refl)
+    (paired_keep old.slots.items new.slots.items old.queue.items links links p
+    (length-change n mid.slots.items new.slots.items _ h.slots ∙ length-change n old.slots.items mid.slots.items (Splits front count close) c) refl)
 refuse_paired links old mid new n count close front fault (Err x) p c mq h = tt
 
 pub bad_went : (tells : Bool) (come : List (Option (List ℕ))) (links : List LinkState) (old new : Front) (n count : ℕ) (kind : HeadKind) (r : Result Bool Stop) →
@@ -184,16 +188,16 @@ pub bad_went : (tells : Bool) (come : List (Option (List ℕ))) (links : List Li
     Went tells (desk_of come links old taking) old.journal.items (desk_of come links new taking) new.journal.items links r
 bad_went tells come links old new n count kind (Ok v) p idle w h k = λ told.
     subst (λ t. Leads (desk_of come links old taking) old.journal.items t new.journal.items)
-      (sym (rest_is come come (peers_of new.slots.items links) old new taking h.rest refl))
-      (leads_one _ _ old.journal.items new.journal.items (event.Bad n count)
-        (was_bad come links old.slots.items new.slots.items old.queue.items old.turn old.took n count kind p.same idle
-          (subst (λ (s : Slot). IsBad s.held.items kind count) (same_slot n old.slots.items old.queue.items w.slot idle w.there) w.bad) h.slots)
-        h.journal)
+    (sym (rest_is come come (peers_of new.slots.items links) old new taking h.rest refl))
+    (leads_one _ _ old.journal.items new.journal.items (event.Bad n count)
+    (was_bad come links old.slots.items new.slots.items old.queue.items old.turn old.took n count kind p.same idle
+    (subst (λ (s : Slot). IsBad s.held.items kind count) (same_slot n old.slots.items old.queue.items w.slot idle w.there) w.bad) h.slots)
+    h.journal)
 bad_went tells come links old new n count kind (Err x) p idle w h k = λ told.
     served_stay _ old.journal.items new.journal.items links k (written-peers old.slots.items links p.same)
 
 pub bad_paired : (links : List LinkState) (old new : Front) (n count : ℕ) (kind : HeadKind) (r : Result Bool Stop) → IsPairedFront old links → OnOk r (AnswersBad old n count kind new) → StaysPaired new links r
 bad_paired links old new n count kind (Ok v) p h =
     subst (λ q. IsPaired new.slots.items q.items links) (sym h.rest.queue)
-      (paired_keep old.slots.items new.slots.items old.queue.items links links p (length-change n old.slots.items new.slots.items _ h.slots) refl)
+    (paired_keep old.slots.items new.slots.items old.queue.items links links p (length-change n old.slots.items new.slots.items _ h.slots) refl)
 bad_paired links old new n count kind (Err x) p h = tt

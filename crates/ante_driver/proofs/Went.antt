@@ -1,5 +1,5 @@
 -- From what the helpers did to what the calls promise.
-use Rattle.std.proofs.Common.{◌≡◌, ℕ, suc, ◌-◌, Bool, true, IsTrue, List, [], ◌∷◌, ◌++◌, length, take, Option, Some, slice_get, Result, Ok, Err, OnOk, OnErr, IfOk, sym, ap, ◌∙◌, subst, refl, arith, ◌⊎◌, inl, inr}
+use Rattle.std.proofs.Common.{◌≡◌, ℕ, suc, ◌-◌, Bool, true, List, ◌++◌, length, take, Option, Some, slice_get, Result, Ok, Err, OnOk, OnErr, IfOk, sym, ap, ◌∙◌, subst, refl, arith, ◌⊎◌}
 use Rattle.std.proofs.lemmas.Option.{same_Some}
 use Rattle.ante_links.specs.LinkStates.{LinkState, fresh_link}
 use Rattle.ante_links.specs.Links.{Accepts, Waits, Changes, OneRead, OneWrite}
@@ -10,15 +10,15 @@ use Rattle.ante_links.specs.declared.links.LinkWrite.TheVariants as write
 use Rattle.ante_journal.specs.declared.event.NodeEvent.{NodeEvent}
 use Rattle.ante_journal.specs.declared.event.NodeEvent.TheVariants as event
 use Rattle.ante_journal.specs.declared.waiting.Waiting.{Waiting}
-use Rattle.ante_journal.specs.Desk.{Peer, Desk, Stage, accepting, taking, sending, waits, stage_after, Closes}
+use Rattle.ante_journal.specs.Desk.{Peer, Desk, Stage, accepting, taking, sending, waits, Closes}
 use Rattle.ante_driver.specs.declared.front.Slot.{Slot}
 use Rattle.ante_driver.specs.declared.front.Stop.{Stop}
 use Rattle.ante_driver.specs.declared.front.Front.{Front}
-use Rattle.ante_driver.specs.Shown.{peers_of, desk_with, desk_of, IsPaired, IsPairedFront, IsCalm, IsIdle, HasCalmLast, Leads, Served, AreWritten, Went, StaysPaired}
+use Rattle.ante_driver.specs.Shown.{peers_of, desk_with, desk_of, IsPaired, IsPairedFront, IsCalm, IsIdle, HasCalmLast, Leads, AreWritten, Went, StaysPaired}
 use Rattle.ante_driver.specs.Slots.{Holds, Shuts, Sends, open_slots}
 use Rattle.ante_driver.specs.Fronts.{AddsSlot, KeepsRest, HoldsBytes, ShutsSlot, SendsFront, stage_with}
 use Rattle.ante_driver.proofs.Places.{length-change, set_there}
-use Rattle.ante_driver.proofs.Runs.{leads_then, then_served, leads_stay, leads_one, leads_no_link, served_stay}
+use Rattle.ante_driver.proofs.Runs.{leads_stay, leads_one, leads_no_link, served_stay}
 use Rattle.ante_driver.proofs.Peers.{written-peers, written-push, written-set, written_more, peers_same_link}
 use Rattle.ante_driver.proofs.Paired.{paired_accept, paired_keep, calm_new}
 use Rattle.ante_driver.proofs.Steps.{rest_is, accepted, stage_is, closed, filled, passed_on}

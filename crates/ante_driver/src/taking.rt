@@ -31,10 +31,13 @@ fn queue_up(
         asked: Some(request),
     })?;
     front.took = true;
-    note(&mut front.journal, NodeEvent::Taken {
+    note(
+        &mut front.journal,
+        NodeEvent::Taken {
             link,
             length: count,
-        })?;
+        },
+    )?;
     Ok(true)
 }
 
@@ -68,10 +71,13 @@ fn refuse(
     let reply = render(alloc, &ApiReply::Fault(fault), close)?;
     say(&mut front.slots, link as usize, reply.as_slice())?;
     front.took = true;
-    note(&mut front.journal, NodeEvent::Taken {
+    note(
+        &mut front.journal,
+        NodeEvent::Taken {
             link,
             length: count,
-        })?;
+        },
+    )?;
     Ok(true)
 }
 
@@ -113,10 +119,13 @@ fn answer_bad(
 {
     let reply = render(alloc, &ApiReply::Fault(head_fault(kind)), true)?;
     say_last(&mut front.slots, link as usize, reply.as_slice())?;
-    note(&mut front.journal, NodeEvent::Bad {
+    note(
+        &mut front.journal,
+        NodeEvent::Bad {
             link,
             length: count,
-        })?;
+        },
+    )?;
     Ok(true)
 }
 

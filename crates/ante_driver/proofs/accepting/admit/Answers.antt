@@ -1,4 +1,4 @@
-use Rattle.std.proofs.Common.{refl, inl, inr}
+use Rattle.std.proofs.Common.{inl, inr}
 use Rattle.ante_driver.proofs.Went.{accept_went, accept_paired, accept_last, no_link_leads}
 use Rattle.ante_driver.proofs.accepting.admit.Goals as goal
 

@@ -1,4 +1,4 @@
-use Rattle.std.proofs.Common.{refl, subst}
+use Rattle.std.proofs.Common.{refl}
 use Rattle.ante_journal.specs.Desk.{sending}
 use Rattle.ante_driver.proofs.Went.{stay_leads, calm_in}
 use Rattle.ante_driver.proofs.sending.send_calm.Goals as goal

@@ -19,12 +19,12 @@ returns-then-branch-clause-went g c = c.in_ok-take_one.ensures.went
 pub returns-in_err-read_once-clause-went : goal.returns-in_err-read_once-clause-went
 returns-in_err-read_once-clause-went g c =
     went_err _ g.L.Links.tells _ _ _ _ _ c.from_residual-in_err-read_once.result c.from_residual-in_err-read_once.ensures.1
-      (λ told. then_served _ _ _ _ _ _ (c.in_ok-take_one.ensures.went told) (c.in_err-read_once.ensures.went told))
+    (λ told. then_served _ _ _ _ _ _ (c.in_ok-take_one.ensures.went told) (c.in_err-read_once.ensures.went told))
 
 pub returns-in_err-take_one-2-clause-went : goal.returns-in_err-take_one-2-clause-went
 returns-in_err-take_one-2-clause-went g c =
     went_err _ g.L.Links.tells _ _ _ _ _ c.from_residual-in_err-take_one-2.result c.from_residual-in_err-take_one-2.ensures.1
-      (λ told. then_served _ _ _ _ _ _ (leads_then _ _ _ _ _ _ (c.in_ok-take_one.ensures.went told) (c.in_ok-read_once.ensures.went told)) (c.in_err-take_one-2.ensures.went told))
+    (λ told. then_served _ _ _ _ _ _ (leads_then _ _ _ _ _ _ (c.in_ok-take_one.ensures.went told) (c.in_ok-read_once.ensures.went told)) (c.in_err-take_one-2.ensures.went told))
 
 pub returns-then-branch-2-clause-went : goal.returns-then-branch-2-clause-went
 returns-then-branch-2-clause-went g c = λ told.
@@ -33,4 +33,4 @@ returns-then-branch-2-clause-went g c = λ told.
 pub returns-clause-went : goal.returns-clause-went
 returns-clause-went g c =
     then_went g.L.Links.tells _ _ _ _ _ _ _ c.close.result
-      (λ told. leads_then _ _ _ _ _ _ (c.in_ok-take_one.ensures.went told) (c.in_ok-read_once.ensures.went told)) (c.close.ensures.went taking taking refl)
+    (λ told. leads_then _ _ _ _ _ _ (c.in_ok-take_one.ensures.went told) (c.in_ok-read_once.ensures.went told)) (c.close.ensures.went taking taking refl)

@@ -15,7 +15,7 @@ loop-link-preserved g c = record {
 pub returns-in_err-serve_idle-clause-went : goal.returns-in_err-serve_idle-clause-went
 returns-in_err-serve_idle-clause-went g c =
     went_err _ g.L.Links.tells _ _ _ _ _ c.from_residual.result c.from_residual.ensures.1
-      (λ told. then_served _ _ _ _ _ _ (c.loop-link.invariant.leads told) (c.in_err-serve_idle.ensures.went told))
+    (λ told. then_served _ _ _ _ _ _ (c.loop-link.invariant.leads told) (c.in_err-serve_idle.ensures.went told))
 
 pub returns-clause-went : goal.returns-clause-went
 returns-clause-went g c = c.loop-link.invariant.leads

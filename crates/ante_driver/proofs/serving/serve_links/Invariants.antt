@@ -9,6 +9,6 @@ invariant-loop-link g l = record {
   room : length l.buffer ≡ read_room;
   paired : IsPairedFront l.front (g.L.Links.links l.links);
   leads : IsTrue g.L.Links.tells → Leads
-    (desk_of (g.L.Links.to_come l.initial.links) (g.L.Links.links l.initial.links) l.initial.front taking) l.initial.front.journal.items
-    (desk_of (g.L.Links.to_come l.links) (g.L.Links.links l.links) l.front taking) l.front.journal.items;
+      (desk_of (g.L.Links.to_come l.initial.links) (g.L.Links.links l.initial.links) l.initial.front taking) l.initial.front.journal.items
+      (desk_of (g.L.Links.to_come l.links) (g.L.Links.links l.links) l.front taking) l.front.journal.items;
 }

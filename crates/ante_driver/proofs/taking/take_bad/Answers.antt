@@ -12,4 +12,4 @@ returns-clause-paired g c = bad_paired (g.L.Links.links c.args.links.now) c.args
 pub returns-clause-went : goal.returns-clause-went
 returns-clause-went g c =
     bad_went g.L.Links.tells (g.L.Links.to_come c.args.links.now) (g.L.Links.links c.args.links.now) c.args.front.now c.answer_bad.new.front c.args.link c.args.count c.args.kind c.answer_bad.result
-      c.requires.paired c.requires.idle c.requires.bad c.answer_bad.ensures.ok c.answer_bad.ensures.err
+    c.requires.paired c.requires.idle c.requires.bad c.answer_bad.ensures.ok c.answer_bad.ensures.err

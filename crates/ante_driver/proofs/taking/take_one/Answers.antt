@@ -1,4 +1,4 @@
-use Rattle.std.proofs.Common.{List, ℕ, slice_get, refl, sym, ap, ◌∙◌, subst}
+use Rattle.std.proofs.Common.{List, ℕ, slice_get, refl, ap, ◌∙◌, subst}
 use Rattle.ante_http.specs.Requests.{IsRequest, IsBad}
 use Rattle.ante_journal.specs.Desk.{taking}
 use Rattle.ante_driver.specs.declared.front.Slot.{Slot}

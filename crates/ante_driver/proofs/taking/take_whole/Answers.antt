@@ -17,15 +17,20 @@ split-requires-clause-count g c = λ s.
 pub returns-in_err-bytes-clause-went : goal.returns-in_err-bytes-clause-went
 returns-in_err-bytes-clause-went g c =
     went_err _ g.L.Links.tells _ _ _ _ (g.L.Links.links c.args.links.now) c.from_residual.result c.from_residual.ensures.1
-      (λ told. served_stay _ _ _ _ refl (written-peers c.args.front.now.slots.items (g.L.Links.links c.args.links.now) c.requires.paired.same))
+    (λ told. served_stay _ _ _ _ refl (written-peers c.args.front.now.slots.items (g.L.Links.links c.args.links.now) c.requires.paired.same))
 
 pub route-requires : goal.route-requires
 route-requires g c =
     let w = c.requires.whole in
     let d = c.in_ok-bytes.ensures in
     let b = same_Some d.before w.slot (sym d.there ∙ w.there) in
-    record { span = (c.args.count, request_alone w.slot.held.items c.in_ok-bytes.bytes.items c.as_slice.result.now c.args.span.now c.args.count w.whole
-      (d.how.front_is ∙ ap (λ (x : Slot). take c.args.count x.held.items) b) c.as_slice.ensures.value) }
+    record {
+      span = (
+        c.args.count,
+        request_alone w.slot.held.items c.in_ok-bytes.bytes.items c.as_slice.result.now c.args.span.now c.args.count w.whole
+            (d.how.front_is ∙ ap (λ (x : Slot). take c.args.count x.held.items) b) c.as_slice.ensures.value,
+      );
+    }
 
 pub overflow_cast-count : goal.overflow_cast-count
 overflow_cast-count g c = omega (arith, request_small c.requires.whole.slot.held.items c.args.span.now c.args.count c.requires.whole.whole)
@@ -36,12 +41,12 @@ overflow_cast-count-in-Err g c = omega (arith, request_small c.requires.whole.sl
 pub returns-in-Ok-clause-paired : goal.returns-in-Ok-clause-paired
 returns-in-Ok-clause-paired g c =
     queue_paired (g.L.Links.links c.args.links.now) c.args.front.now (record { slots = c.split.new.slots; queue = c.args.front.now.queue; turn = c.args.front.now.turn; took = c.args.front.now.took; journal = c.args.front.now.journal }) c.queue_up.new.front c.args.link c.args.count c.args.span.now.close c.in_ok-bytes.bytes.items c.in-Ok.request c.queue_up.result
-      c.requires.paired c.requires.idle c.in_ok-bytes.ensures refl c.queue_up.ensures.ok
+    c.requires.paired c.requires.idle c.in_ok-bytes.ensures refl c.queue_up.ensures.ok
 
 pub returns-in-Ok-clause-went : goal.returns-in-Ok-clause-went
 returns-in-Ok-clause-went g c =
     queue_went g.L.Links.tells (g.L.Links.to_come c.args.links.now) (g.L.Links.links c.args.links.now) c.args.front.now (record { slots = c.split.new.slots; queue = c.args.front.now.queue; turn = c.args.front.now.turn; took = c.args.front.now.took; journal = c.args.front.now.journal }) c.queue_up.new.front c.args.link c.args.count c.args.span.now c.in_ok-bytes.bytes.items c.in-Ok.request c.queue_up.result
-      c.requires.paired c.requires.idle c.requires.whole c.in_ok-bytes.ensures refl refl refl (subst (λ (x : List ℕ). Routes x c.args.span.now (Ok c.in-Ok.request)) c.as_slice.ensures.value c.in-Ok.ensures) c.queue_up.ensures.ok c.queue_up.ensures.err
+    c.requires.paired c.requires.idle c.requires.whole c.in_ok-bytes.ensures refl refl refl (subst (λ (x : List ℕ). Routes x c.args.span.now (Ok c.in-Ok.request)) c.as_slice.ensures.value c.in-Ok.ensures) c.queue_up.ensures.ok c.queue_up.ensures.err
 
 pub refuse-requires : goal.refuse-requires
 refuse-requires g c = omega (arith, slice_get_within c.args.front.now.slots.items c.args.link c.requires.idle.slot c.requires.idle.there, length-change c.args.link c.args.front.now.slots.items c.split.new.slots.items _ c.in_ok-bytes.ensures)
@@ -49,9 +54,9 @@ refuse-requires g c = omega (arith, slice_get_within c.args.front.now.slots.item
 pub returns-clause-paired : goal.returns-clause-paired
 returns-clause-paired g c =
     refuse_paired (g.L.Links.links c.args.links.now) c.args.front.now (record { slots = c.split.new.slots; queue = c.args.front.now.queue; turn = c.args.front.now.turn; took = c.args.front.now.took; journal = c.args.front.now.journal }) c.refuse.new.front c.args.link c.args.count c.args.span.now.close c.in_ok-bytes.bytes.items c.in-Err.fault c.refuse.result
-      c.requires.paired c.in_ok-bytes.ensures refl c.refuse.ensures.ok
+    c.requires.paired c.in_ok-bytes.ensures refl c.refuse.ensures.ok
 
 pub returns-clause-went : goal.returns-clause-went
 returns-clause-went g c =
     refuse_went g.L.Links.tells (g.L.Links.to_come c.args.links.now) (g.L.Links.links c.args.links.now) c.args.front.now (record { slots = c.split.new.slots; queue = c.args.front.now.queue; turn = c.args.front.now.turn; took = c.args.front.now.took; journal = c.args.front.now.journal }) c.refuse.new.front c.args.link c.args.count c.args.span.now c.in_ok-bytes.bytes.items c.in-Err.fault c.refuse.result
-      c.requires.paired c.requires.idle c.requires.whole c.in_ok-bytes.ensures refl refl refl (subst (λ (x : List ℕ). Routes x c.args.span.now (Err c.in-Err.fault)) c.as_slice.ensures.value c.in-Err.ensures) c.refuse.ensures.ok c.refuse.ensures.err
+    c.requires.paired c.requires.idle c.requires.whole c.in_ok-bytes.ensures refl refl refl (subst (λ (x : List ℕ). Routes x c.args.span.now (Err c.in-Err.fault)) c.as_slice.ensures.value c.in-Err.ensures) c.refuse.ensures.ok c.refuse.ensures.err
