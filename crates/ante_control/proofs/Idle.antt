@@ -16,7 +16,7 @@ module _ {W : Type 0} where
   not_made rs None h = refl
   not_made rs (Some p) h = h
 
-  nothing : (o : Option (Pending W)) → IsNone o → info_shown o ≡ None
+  pub nothing : (o : Option (Pending W)) → IsNone o → info_shown o ≡ None
   nothing None h = refl
   nothing (Some p) h = cc
 

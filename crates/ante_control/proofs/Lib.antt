@@ -10,3 +10,6 @@ pub mod Starting
 pub mod Pushes
 pub mod History
 pub mod Sealing
+pub mod Lengths
+pub mod Making
+pub mod Crowning

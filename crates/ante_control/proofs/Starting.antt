@@ -29,7 +29,7 @@ is_started g t none a head e n f h =
     let b : a ≡ record { num = 1; id = id_of (genesis_block g) } ∷ [] = f ∙ ap (λ xs. xs ++ head ∷ []) n ∙ ap (λ x. x ∷ []) (h ∙ head_is g) in
     λ i. record { tree = e i; applied = b i }
 
-no_receipts : length (block.spell (roomy_block [])) ≤ most_block_bytes
+pub no_receipts : length (block.spell (roomy_block [])) ≤ most_block_bytes
 unfolding block header u32 u64 name digest string varuint varuint_bytes
 no_receipts = omega arith
 

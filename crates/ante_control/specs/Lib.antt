@@ -6,3 +6,4 @@ pub mod Errors
 pub mod Pushing
 pub mod Shown
 pub mod Held
+pub mod Sealed

@@ -12,6 +12,7 @@ use Rattle.ante_types.specs.Chain.{block, receipt}
 use Rattle.ante_types.specs.Ids.{block_id, block_num, trx_root}
 use Rattle.ante_verdicts.specs.Judge.{Judge}
 use Rattle.ante_machine.specs.Stacks.{Pending}
+use Rattle.ante_machine.specs.Steps.{Steps}
 use Rattle.ante_fork.specs.Rules.{producer_at}
 use Rattle.ante_fork.specs.Tree.{Tree, block_at}
 
@@ -66,11 +67,26 @@ pub record IsTurn (t : Tree) (slot : ℕ) (producer : Name) : Type 0 where
   pub turn : producer ≡ producer_at t.producers slot
 
 module _ {W : Type 0} where
-  -- a transaction that succeeded leaves a receipt
-  abbrev pub with_trx : Option Failure → (packed : List ℕ) → (signatures : List (List ℕ)) → W × Trace → Making W → Making W
-  with_trx None packed signatures done m =
-      record { info = m.info; receipts = m.receipts ++ receipt_of done.1.steps packed signatures ∷ []; world = done.0 }
-  with_trx (Some f) packed signatures done m = m
+  -- nothing but its beginning, upon a world
+  abbrev pub begun_block : Steps W → (chain : List ℕ) → W → BlockInfo → Making W
+  begun_block steps chain w info = record { info = info; receipts = []; world = steps.begin chain w info }
+
+  -- a transaction on its world
+  abbrev pub run_in : Steps W → (chain : List ℕ) → Judge → (packed : List ℕ) → (signatures : List (List ℕ)) → Making W → W × Trace
+  run_in steps chain judge packed signatures m = steps.trx chain judge m.world m.info packed signatures
+
+-- a transaction that succeeded leaves a receipt
+abbrev pub with_receipt : Option Failure → Receipt → List Receipt → List Receipt
+with_receipt None r receipts = receipts ++ r ∷ []
+with_receipt (Some f) r receipts = receipts
+
+module _ {W : Type 0} where
+  abbrev pub with_trx : (packed : List ℕ) → (signatures : List (List ℕ)) → W × Trace → Making W → Making W
+  with_trx packed signatures done m = record {
+    info = m.info;
+    receipts = with_receipt done.1.failure (receipt_of done.1.steps packed signatures) m.receipts;
+    world = done.0;
+  }
 
 -- the trace at a place of the applied list
 abbrev pub placed_at : ℕ → Trace → Trace
@@ -82,3 +98,9 @@ placed_at position trace = record {
   steps = trace.steps;
   actions = trace.actions;
 }
+
+-- What a transaction leaves of the machine's pending block and of the receipts beside it.
+pub record IsRun {W : Type 0} (packed : List ℕ) (signatures : List (List ℕ)) (p : Pending W) (done : W × Trace) (answer : Trace) (after : Option (Pending W)) (old new : List Receipt) : Type 0 where
+  pub trace : answer ≡ done.1
+  pub pending : after ≡ Some (record { info = p.info; world = done.0 })
+  pub receipts : new ≡ with_receipt done.1.failure (receipt_of done.1.steps packed signatures) old

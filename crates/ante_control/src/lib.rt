@@ -8,6 +8,8 @@ mod chain;
 mod enter;
 mod error;
 pub mod laws;
+mod make;
+mod sizes;
 mod take;
 
 pub use chain::Chain;

@@ -1,0 +1,6 @@
+use Rattle.std.proofs.Common.{length, arith}
+use Rattle.ante_control.proofs.Lengths.{string_length}
+use Rattle.ante_control.proofs.sizes.string_size.Goals as goal
+
+pub returns-clause-size : goal.returns-clause-size
+returns-clause-size c = omega (arith, string_length c.args.text.now, c.count_size.ensures.size)
