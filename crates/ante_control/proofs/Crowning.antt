@@ -1,5 +1,5 @@
 -- The block that was made is the head's next, and breaks no rule.
-use Rattle.std.proofs.Common.{◌≡◌, ◌==◌, ℕ, ◌+◌, ◌-◌, ◌<◌, ◌≤◌, ◌^◌, Bool, true, false, List, [], ◌∷◌, ◌++◌, length, Option, Some, None, is_some, IsNone, IsSome, IfSome, Result, Ok, Err, refl, sym, ap, subst, ◌∙◌, arith, nat_le, if◌then◌else◌, length-append}
+use Rattle.std.proofs.Common.{◌≡◌, ◌==◌, ℕ, ◌+◌, ◌<◌, ◌≤◌, Bool, true, false, List, [], ◌∷◌, ◌++◌, length, Option, Some, None, is_some, IsNone, IsSome, IfSome, Ok, refl, sym, ap, subst, ◌∙◌, arith, nat_le, if◌then◌else◌, length-append}
 use Rattle.std.proofs.lemmas.Bool.Decides.{nat_tests}
 use Rattle.std.specs.Str.{bytes_eq}
 use Rattle.ante_pack.specs.declared.names.Name.{Name}
@@ -10,25 +10,23 @@ use Rattle.ante_types.specs.declared.chain.Receipt.{Receipt}
 use Rattle.ante_types.specs.Ids.{block_num, block_id, trx_root}
 use Rattle.ante_undo.specs.Stack.{Stack, committed}
 use Rattle.ante_verdicts.specs.Judge.{Judge, IsSealed}
-use Rattle.ante_machine.specs.Steps.{Steps, info_of, receipts_run, block_runs}
+use Rattle.ante_machine.specs.Steps.{info_of, receipts_run}
 use Rattle.ante_machine.specs.Stacks.{Pending, above}
-use Rattle.ante_fork.specs.declared.AddError.{AddError}
-use Rattle.ante_fork.specs.declared.AddError.TheVariants.{Known, Unlinkable, BadRoot, BadSlot, BadProducer}
+use Rattle.ante_fork.specs.declared.AddError.TheVariants.{Known, Unlinkable}
 use Rattle.ante_fork.specs.Finality.{settled}
 use Rattle.ante_fork.specs.Rules.{refusal, misfit, misplaced, producer_at}
 use Rattle.ante_fork.specs.Tree.{Tree, id_of, num_of, block_at, find_block, branch, with_block, with_head, IsTree}
 use Rattle.ante_fork.proofs.Added.{id_num}
-use Rattle.ante_fork.proofs.Branches.{same, kept_here, placed_num, or_some}
+use Rattle.ante_fork.proofs.Branches.{same, kept_here, placed_num}
 use Rattle.ante_fork.proofs.Pruned.{same_refl}
 use Rattle.ante_control.specs.declared.error.Pushed.TheVariants.{Head}
-use Rattle.ante_control.specs.Chosen.{Play, play_of, replay, head_of}
+use Rattle.ante_control.specs.Chosen.{Play, head_of}
 use Rattle.ante_control.specs.Held.{IsHeld, IsNext}
-use Rattle.ante_control.specs.Making.{Making, IsTurn, made_header, sealed_block, most_block_bytes}
-use Rattle.ante_control.specs.Pushing.{IsPushed, IsEntered, IsTaken, barrier, is_sealed}
-use Rattle.ante_control.specs.Running.{IsReplaced}
+use Rattle.ante_control.specs.Making.{Making, made_header, sealed_block}
+use Rattle.ante_control.specs.Pushing.{IsPushed, IsEntered}
 use Rattle.ante_control.specs.Sealed.{IsCrowned}
 use Rattle.ante_control.specs.Shown.{standing, making}
-use Rattle.ante_control.specs.Tabled.{IsMade, IsStanding, Holds, AllWithin, worlds}
+use Rattle.ante_control.specs.Tabled.{IsStanding, Holds, AllWithin, worlds}
 use Rattle.ante_control.proofs.Idle.{nothing, not_made}
 use Rattle.ante_control.proofs.Lengths.{as_short, kept_length, root_length, receipts_fit}
 use Rattle.ante_control.proofs.Open.{committed_holds}

@@ -1,5 +1,5 @@
 -- Why a block doesn't enter the tree.
-use Rattle.std.proofs.Common.{◌≡◌, ◌==◌, ℕ, Bool, true, false, Option, Some, None, Result, Ok, Err, refl, sym, ap, subst, ◌∙◌, if◌then◌else◌}
+use Rattle.std.proofs.Common.{◌≡◌, ◌==◌, Bool, true, false, Option, Some, None, Err, refl, sym, ap, subst, ◌∙◌, if◌then◌else◌}
 use Rattle.ante_types.specs.declared.chain.Block.{Block}
 use Rattle.ante_types.specs.Ids.{block_num}
 use Rattle.ante_verdicts.specs.Judge.{Judge}

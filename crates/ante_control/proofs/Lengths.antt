@@ -1,5 +1,5 @@
 -- How long blocks are, and which receipts can be packed.
-use Rattle.std.proofs.Common.{◌≡◌, ◌==◌, ℕ, zero, suc, ◌+◌, ◌/◌, ◌%◌, ◌^◌, ◌≤◌, ◌<◌, Bool, true, false, cond, List, [], ◌∷◌, ◌++◌, length, replicate, Option, Some, None, is_some, refl, sym, ap, subst, ◌∙◌, arith, length-append, nat_lt, nat_le, if◌then◌else◌}
+use Rattle.std.proofs.Common.{◌≡◌, ◌==◌, ℕ, zero, suc, ◌+◌, ◌/◌, ◌%◌, ◌^◌, ◌≤◌, ◌<◌, Bool, true, false, cond, List, [], ◌∷◌, ◌++◌, length, replicate, Option, Some, is_some, refl, sym, ap, ◌∙◌, arith, length-append, nat_lt, nat_le, if◌then◌else◌}
 use Rattle.std.proofs.lemmas.Bool.Decides.{nat_tests}
 use Rattle.std.proofs.lemmas.Grind.{flat_map-append}
 use Rattle.std.proofs.lemmas.List.{length-drop}
@@ -15,7 +15,7 @@ use Rattle.ante_types.specs.declared.chain.Receipt.{Receipt}
 use Rattle.ante_types.specs.Chain.{block, header, receipt}
 use Rattle.ante_types.specs.Ids.{block_id, trx_root}
 use Rattle.ante_fork.specs.Tree.{Tree, id_of, find_block, block_at}
-use Rattle.ante_fork.proofs.Branches.{same, kept_here}
+use Rattle.ante_fork.proofs.Branches.{same}
 use Rattle.ante_control.specs.Making.{receipt_of, roomy_block, has_room, most_block_bytes}
 
 -- ---- counts

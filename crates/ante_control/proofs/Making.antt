@@ -1,12 +1,11 @@
 -- The block that is being made, as it begins, grows and goes.
-use Rattle.std.proofs.Common.{◌≡◌, ◌==◌, ℕ, ◌+◌, ◌<◌, ◌≤◌, Bool, true, false, List, [], ◌∷◌, ◌++◌, length, Option, Some, None, IsSome, IfSome, OnSome, Result, Ok, Err, IsOk, refl, sym, ap, subst, ◌∙◌, arith}
+use Rattle.std.proofs.Common.{◌≡◌, ◌==◌, ℕ, ◌+◌, ◌<◌, ◌≤◌, true, List, [], length, Option, Some, None, IsSome, IfSome, OnSome, Result, Ok, Err, IsOk, refl, sym, ap, subst, ◌∙◌, arith}
 use Rattle.std.proofs.lemmas.Bool.Decides.{nat_tests}
 use Rattle.std.specs.List.{flat_map, AllByRecursion}
 use Rattle.ante_pack.specs.declared.fault.PackFault.{PackFault}
 use Rattle.ante_pack.specs.Forms.{whole, list_of, string}
 use Rattle.ante_types.specs.declared.chain.BlockInfo.{BlockInfo}
 use Rattle.ante_types.specs.declared.chain.Receipt.{Receipt}
-use Rattle.ante_types.specs.declared.chain.Transaction.{Transaction}
 use Rattle.ante_types.specs.declared.failure.Failure.{Failure}
 use Rattle.ante_types.specs.declared.trace.Trace.{Trace}
 use Rattle.ante_types.specs.Chain.{block, receipt, transaction}

@@ -1,5 +1,5 @@
 -- Where nothing below the irreversible block is left beside the head's branch, each longer branch leaves the head's at that block or above.
-use Rattle.std.proofs.Common.{◌≡◌, ◌≢◌, ℕ, zero, suc, ◌+◌, ◌-◌, ◌<◌, ◌≤◌, Bool, true, false, ◌||◌, ◌&&◌, List, [], ◌∷◌, ◌++◌, length, take, drop, reverse, Option, Some, None, is_some, Result, Ok, Err, refl, sym, ap, subst, ◌∙◌, arith, add-one, length-append, nat_lt, nat_le, ◌==◌, ◌*◌, ◌/◌, map, slice_index_or, max, if◌then◌else◌}
+use Rattle.std.proofs.Common.{◌≡◌, ℕ, zero, suc, ◌+◌, ◌-◌, ◌<◌, ◌≤◌, Bool, true, false, ◌||◌, ◌&&◌, List, [], ◌∷◌, ◌++◌, length, take, drop, reverse, Option, Some, None, is_some, refl, sym, ap, subst, ◌∙◌, arith, nat_lt, nat_le, ◌==◌, ◌*◌, ◌/◌, map, slice_index_or, if◌then◌else◌}
 use Rattle.std.specs.Str.{bytes_eq}
 use Rattle.std.specs.List.{AllByRecursion, slice_get}
 use Rattle.std.proofs.lemmas.Bool.Decides.{nat_tests}
@@ -8,13 +8,13 @@ use Rattle.std.proofs.Math.Seq.{take-append_seam}
 use Rattle.ante_pack.specs.declared.names.Name.{Name}
 use Rattle.ante_types.specs.declared.chain.Block.{Block}
 use Rattle.ante_types.specs.Ids.{block_num}
-use Rattle.ante_undo.specs.Stack.{Stack, committed, newest, maps_of}
-use Rattle.ante_fork.specs.Tree.{Tree, id_of, num_of, block_at, find_block, branch, meeting, pruned, with_block, IsTree, AllPlaced}
-use Rattle.ante_fork.specs.Finality.{is_open, settled_at, settled, agreed, last_number, insert_down, descending}
+use Rattle.ante_undo.specs.Stack.{Stack, committed}
+use Rattle.ante_fork.specs.Tree.{Tree, id_of, num_of, block_at, find_block, branch, meeting, pruned, IsTree, AllPlaced}
+use Rattle.ante_fork.specs.Finality.{is_open, settled_at, agreed, last_number, insert_down, descending}
 use Rattle.ante_fork.proofs.Branches.{counted, is_path, kept_here, here_kept, placed_num}
 use Rattle.ante_fork.proofs.Pruned.{StaysAll, pruned_branch, pruned_placed, same_refl}
 use Rattle.ante_fork.proofs.Apart.{apart}
-use Rattle.ante_control.specs.Chosen.{Play, replay}
+use Rattle.ante_control.specs.Chosen.{Play}
 use Rattle.ante_control.specs.Tabled.{worlds, Holds, AllOpen}
 use Rattle.ante_control.proofs.Ways.{rise, is_cut}
 

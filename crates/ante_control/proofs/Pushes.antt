@@ -1,7 +1,6 @@
 -- What a push leaves, by what its parts did.
-use Rattle.std.proofs.Common.{◌≡◌, ℕ, ◌+◌, ◌-◌, ◌<◌, ◌≤◌, Bool, true, false, List, [], ◌∷◌, ◌++◌, length, Option, Some, None, is_some, Result, Ok, Err, IsOk, IfErr, refl, sym, ap, subst, ◌∙◌, arith, nat_lt, if◌then◌else◌, take, length-append}
+use Rattle.std.proofs.Common.{◌≡◌, ℕ, ◌+◌, ◌-◌, ◌<◌, ◌≤◌, true, false, List, [], ◌∷◌, ◌++◌, length, Option, None, Result, Ok, Err, IsOk, IfErr, refl, sym, ap, subst, ◌∙◌, arith, nat_lt, take, length-append}
 use Rattle.std.proofs.Math.Seq.{take-append_seam}
-use Rattle.std.specs.List.{AllByRecursion}
 use Rattle.ante_types.specs.declared.chain.Block.{Block}
 use Rattle.ante_types.specs.declared.chain.Head.{Head as ChainHead}
 use Rattle.ante_types.specs.Ids.{block_num}
@@ -9,21 +8,21 @@ use Rattle.ante_undo.specs.Stack.{Stack, committed}
 use Rattle.ante_verdicts.specs.Judge.{Judge}
 use Rattle.ante_fork.specs.Finality.{settled, is_open}
 use Rattle.ante_fork.specs.Rules.{refusal}
-use Rattle.ante_fork.specs.Tree.{Tree, id_of, num_of, block_at, find_block, branch, meeting, with_block, with_head, dropped, other_than, IsTree}
+use Rattle.ante_fork.specs.Tree.{Tree, id_of, num_of, branch, meeting, with_block, with_head, dropped, other_than, IsTree}
 use Rattle.ante_fork.proofs.Branches.{kept_here, is_path, meets, placed_num}
 use Rattle.ante_fork.proofs.Pruned.{dropped_tree, dropped_head}
 use Rattle.ante_control.specs.declared.branches.BranchError.{BranchError}
 use Rattle.ante_control.specs.declared.branches.BranchError.TheVariants.{OutOfMemory, Invalid}
-use Rattle.ante_control.specs.declared.error.Pushed.TheVariants.{Head, Kept}
+use Rattle.ante_control.specs.declared.error.Pushed.TheVariants.{Kept}
 use Rattle.ante_control.specs.declared.error.PushError.{PushError}
 use Rattle.ante_control.specs.declared.error.PushError.TheVariants as push
-use Rattle.ante_control.specs.Chosen.{Play, Choice, replay, is_longer, branch_with, arrived, tried}
+use Rattle.ante_control.specs.Chosen.{Play, Choice}
 use Rattle.ante_control.specs.Errors.{answered}
 use Rattle.ante_control.specs.Making.{Making}
-use Rattle.ante_control.specs.Pushing.{IsBarred, IsAnswer, IsPushed, IsRefused, IsEntered, IsOut, IsTaken, IsGiven, Takes, barred_by, barrier, is_sealed, is_invalid, refused_choice}
-use Rattle.ante_control.specs.Running.{BranchEnds, IsReplaced}
+use Rattle.ante_control.specs.Pushing.{IsBarred, IsAnswer, IsPushed, IsRefused, IsEntered, IsOut, Takes, barred_by, barrier, is_sealed, is_invalid, refused_choice}
+use Rattle.ante_control.specs.Running.{BranchEnds}
 use Rattle.ante_control.specs.Shown.{standing}
-use Rattle.ante_control.specs.Tabled.{IsTabled, IsStanding, Holds, worlds, AllOpen, AllWithin}
+use Rattle.ante_control.specs.Tabled.{IsStanding, Holds, worlds, AllOpen, AllWithin}
 use Rattle.ante_control.proofs.Open.{deep_enough, committed_holds, committed_enough}
 use Rattle.ante_control.proofs.Standing.{longer_true, longer_false, fresh, headed, after, open_new, all_pruned, within_up, within_dropped}
 use Rattle.ante_control.proofs.Ways.{rise}

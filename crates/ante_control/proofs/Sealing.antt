@@ -1,12 +1,11 @@
 -- The pending block as it grows, and the block that it becomes.
-use Rattle.std.proofs.Common.{◌≡◌, ℕ, ◌+◌, ◌==◌, Bool, true, false, List, [], ◌∷◌, ◌++◌, Option, Some, None, Result, Ok, Err, refl, sym, ap, subst, ◌∙◌, if◌then◌else◌}
+use Rattle.std.proofs.Common.{◌≡◌, ℕ, ◌+◌, ◌==◌, Bool, true, false, List, [], ◌∷◌, ◌++◌, None, Result, Ok, Err, refl, ap, ◌∙◌, if◌then◌else◌}
 use Rattle.ante_pack.specs.Forms.{whole}
 use Rattle.ante_types.specs.Chain.{transaction}
 use Rattle.ante_types.specs.declared.chain.Block.{Block}
 use Rattle.ante_types.specs.declared.chain.BlockInfo.{BlockInfo}
 use Rattle.ante_types.specs.declared.chain.Receipt.{Receipt}
 use Rattle.ante_types.specs.declared.chain.Transaction.{Transaction}
-use Rattle.ante_types.specs.declared.failure.Failure.{Failure}
 use Rattle.ante_types.specs.declared.failure.Failure.TheVariants as failure
 use Rattle.ante_types.specs.declared.trace.Trace.{Trace}
 use Rattle.ante_types.specs.Failures.{failure_code}

@@ -1,16 +1,16 @@
 -- What holds of every chain, where a block has come into the tree or gone out of it.
-use Rattle.std.proofs.Common.{◌≡◌, ℕ, ◌+◌, ◌-◌, ◌<◌, ◌≤◌, Bool, true, false, List, [], ◌∷◌, ◌++◌, length, Option, Some, None, is_some, refl, sym, ap, subst, ◌∙◌, arith, nat_lt, max, ◌||◌, ◌&&◌, if◌then◌else◌, length-append}
+use Rattle.std.proofs.Common.{◌≡◌, ℕ, ◌<◌, ◌≤◌, Bool, true, false, List, [], ◌∷◌, Some, None, is_some, refl, sym, ap, subst, ◌∙◌, arith, nat_lt, max, ◌||◌, ◌&&◌, if◌then◌else◌}
 use Rattle.std.proofs.lemmas.Bool.Decides.{nat_tests}
 use Rattle.std.specs.Str.{bytes_eq}
 use Rattle.std.specs.List.{AllByRecursion}
 use Rattle.ante_types.specs.declared.chain.Block.{Block}
 use Rattle.ante_types.specs.Ids.{block_num}
-use Rattle.ante_fork.specs.Finality.{settled, settled_at, agreed, is_open}
+use Rattle.ante_fork.specs.Finality.{settled, agreed, is_open}
 use Rattle.ante_fork.specs.Rules.{refusal}
-use Rattle.ante_fork.specs.Tree.{Tree, id_of, num_of, block_at, find_block, branch, meeting, pruned, other_than, with_block, with_head, dropped, IsTree, AllPlaced, IsPlaced}
+use Rattle.ante_fork.specs.Tree.{Tree, id_of, num_of, block_at, find_block, branch, pruned, other_than, with_block, with_head, dropped, IsTree, AllPlaced, IsPlaced}
 use Rattle.ante_fork.proofs.Added.{added, added_head, fits, is_new}
 use Rattle.ante_fork.proofs.Apart.{off_branch}
-use Rattle.ante_fork.proofs.Branches.{kept_here, same}
+use Rattle.ante_fork.proofs.Branches.{same}
 use Rattle.ante_fork.proofs.Pruned.{dropped_added, same_refl, find_pruned}
 use Rattle.ante_control.specs.Tabled.{AllOpen, AllWithin}
 use Rattle.ante_control.proofs.Open.{settles, agreed_low}

@@ -1,11 +1,9 @@
 -- The chain of genesis alone.
-use Rattle.std.proofs.Common.{◌≡◌, ℕ, ◌+◌, ◌≤◌, List, [], ◌∷◌, ◌++◌, length, Option, Some, None, IsNone, refl, sym, ap, subst, ◌∙◌, arith}
-use Rattle.std.specs.List.{flat_map, AllByRecursion}
+use Rattle.std.proofs.Common.{◌≡◌, ℕ, ◌≤◌, List, [], ◌∷◌, ◌++◌, length, Option, Some, None, IsNone, refl, sym, ap, subst, ◌∙◌, arith}
 use Rattle.ante_pack.specs.Forms.{string, varuint, varuint_bytes}
 use Rattle.ante_pack.specs.Packed.{u32, u64, name, digest}
-use Rattle.ante_types.specs.Chain.{block, header, receipt}
+use Rattle.ante_types.specs.Chain.{block, header}
 use Rattle.ante_types.specs.Genesis.{genesis_head}
-use Rattle.ante_types.specs.Ids.{block_num}
 use Rattle.ante_types.specs.declared.chain.Genesis.{Genesis}
 use Rattle.ante_types.specs.declared.chain.Head.{Head}
 use Rattle.ante_types.specs.declared.chain.Receipt.{Receipt}
@@ -13,7 +11,7 @@ use Rattle.ante_undo.specs.Stack.{Stack, opened}
 use Rattle.ante_machine.specs.Stacks.{Pending}
 use Rattle.ante_fork.specs.Tree.{Tree, id_of, root, genesis_block}
 use Rattle.ante_fork.proofs.Added.{genesis_first, genesis_tree}
-use Rattle.ante_control.specs.Chosen.{Choice, started}
+use Rattle.ante_control.specs.Chosen.{started}
 use Rattle.ante_control.specs.Held.{IsHeld}
 use Rattle.ante_control.specs.Making.{Making, roomy_block, most_block_bytes}
 use Rattle.ante_control.specs.Shown.{standing, info_shown}

@@ -1,11 +1,10 @@
 -- A branch in the place of the head's.
-use Rattle.std.proofs.Common.{◌≡◌, ℕ, ◌+◌, ◌-◌, ◌<◌, ◌≤◌, true, false, List, [], ◌∷◌, ◌++◌, length, take, drop, Option, Some, None, is_some, IsSome, Result, Ok, Err, refl, sym, ap, subst, ◌∙◌, arith, length-append}
+use Rattle.std.proofs.Common.{◌≡◌, ℕ, ◌+◌, ◌-◌, ◌≤◌, true, List, [], ◌∷◌, length, drop, Some, None, is_some, IsSome, Err, refl, sym, ap, subst, ◌∙◌, arith, length-append}
 use Rattle.ante_types.specs.declared.chain.Block.{Block}
-use Rattle.ante_types.specs.declared.chain.Head.{Head}
 use Rattle.ante_types.specs.Ids.{block_num}
-use Rattle.ante_undo.specs.Stack.{Stack, IsShelved, maps_of}
+use Rattle.ante_undo.specs.Stack.{Stack, IsShelved}
 use Rattle.ante_fork.specs.declared.tree.ForkPath.{ForkPath}
-use Rattle.ante_fork.specs.Tree.{Tree, id_of, block_at, branch, meeting, tip, IsTree}
+use Rattle.ante_fork.specs.Tree.{Tree, id_of, block_at, branch, meeting, IsTree}
 use Rattle.ante_fork.specs.Paths.{path_of, fork_id}
 use Rattle.ante_fork.proofs.Branches.{is_path, meets, placed_num, kept_here}
 use Rattle.ante_control.specs.declared.branches.BranchError.{BranchError}

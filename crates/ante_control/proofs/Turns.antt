@@ -1,12 +1,12 @@
 -- One block more on a machine, and a branch run so far.
-use Rattle.std.proofs.Common.{◌≡◌, ℕ, zero, suc, ◌+◌, ◌-◌, ◌<◌, ◌≤◌, Bool, true, false, if◌then◌else◌, is_some, List, [], ◌∷◌, ◌++◌, length, take, drop, Option, Some, None, Result, Ok, Err, refl, sym, ap, subst, ◌∙◌, arith}
+use Rattle.std.proofs.Common.{◌≡◌, ℕ, zero, suc, ◌+◌, ◌-◌, ◌≤◌, Bool, true, false, if◌then◌else◌, is_some, List, [], ◌∷◌, take, drop, Some, Result, Err, refl, sym, ap, subst, ◌∙◌, arith}
 use Rattle.std.proofs.lemmas.List.{take-append-drop}
 use Rattle.std.specs.List.{slice_get}
 use Rattle.std.specs.Str.{bytes_eq}
 use Rattle.ante_types.specs.declared.chain.Block.{Block}
 use Rattle.ante_undo.specs.Stack.{Stack}
 use Rattle.ante_machine.specs.Steps.{block_runs}
-use Rattle.ante_machine.specs.Stacks.{above, Runs, Fails}
+use Rattle.ante_machine.specs.Stacks.{Runs, Fails}
 use Rattle.ante_fork.specs.Tree.{Tree, id_of, branch, meeting}
 use Rattle.ante_control.specs.Chosen.{Play, Failed, replay}
 use Rattle.ante_control.specs.Tabled.{worlds, Holds}

@@ -1,14 +1,13 @@
 -- The blocks on the way up from the fork point to a kept block.
-use Rattle.std.proofs.Common.{◌≡◌, ℕ, zero, suc, ◌+◌, ◌-◌, ◌<◌, ◌≤◌, Bool, true, false, List, [], ◌∷◌, ◌++◌, length, take, drop, Option, Some, None, is_some, refl, sym, ap, subst, ◌∙◌, arith, add-one, length-append, if◌then◌else◌, nat_lt}
+use Rattle.std.proofs.Common.{◌≡◌, ℕ, zero, suc, ◌+◌, ◌-◌, ◌<◌, true, List, [], ◌∷◌, length, drop, Some, None, is_some, refl, sym, ap, subst, ◌∙◌, arith, add-one, length-append, nat_lt}
 use Rattle.std.specs.List.{slice_get}
-use Rattle.std.proofs.lemmas.List.{length-drop, take-append-drop}
+use Rattle.std.proofs.lemmas.List.{length-drop}
 use Rattle.std.proofs.Math.Seq.{drop-append_seam}
-use Rattle.std.proofs.lemmas.Option.{slice_get_within, slice_get_past}
 use Rattle.std.proofs.lemmas.Bool.Decides.{nat_tests}
 use Rattle.ante_types.specs.declared.chain.Block.{Block}
 use Rattle.ante_types.specs.Ids.{block_num}
-use Rattle.ante_fork.specs.Tree.{Tree, id_of, block_at, find_block, branch, meeting, tip, IsTree}
-use Rattle.ante_fork.specs.Paths.{path_of, above_on, above_fork}
+use Rattle.ante_fork.specs.Tree.{Tree, id_of, block_at, find_block, branch, meeting, IsTree}
+use Rattle.ante_fork.specs.Paths.{above_fork}
 use Rattle.ante_fork.proofs.Branches.{Counted, counted, meets, is_path}
 use Rattle.ante_fork.proofs.Apart.{apart}
 

@@ -1,14 +1,11 @@
 -- Stacks of worlds, and the replays that they hold.
-use Rattle.std.proofs.Common.{◌≡◌, ℕ, zero, suc, ◌+◌, ◌-◌, ◌<◌, ◌≤◌, Bool, true, false, List, [], ◌∷◌, ◌++◌, length, take, drop, reverse, Option, Some, None, IfSome, Result, Ok, Err, refl, sym, ap, subst, ◌∙◌, arith, rules, append_assoc, length-append, add-one}
+use Rattle.std.proofs.Common.{◌≡◌, ℕ, ◌+◌, ◌-◌, ◌≤◌, List, [], ◌∷◌, ◌++◌, length, take, drop, reverse, None, IfSome, Ok, Err, refl, sym, ap, subst, ◌∙◌, arith, append_assoc, length-append}
 use Rattle.std.proofs.lemmas.List.{reverse-append, reverse-reverse, append-nil, take-append-drop, length-drop, length-reverse, length-take-le}
 use Rattle.std.proofs.Math.Seq.{drop-append_seam, take-append_seam}
-use Rattle.std.specs.List.{slice_get}
 use Rattle.ante_types.specs.declared.chain.Block.{Block}
-use Rattle.ante_types.specs.Ids.{block_num}
-use Rattle.ante_undo.specs.Stack.{Stack, Shelf, maps_of, newest, without_newest, IsShelved, IsBroughtBack, IsUnshelved, with_top, begun, without_shelf}
-use Rattle.ante_machine.specs.Steps.{Steps, block_runs, onward}
-use Rattle.ante_verdicts.specs.Judge.{Judge}
-use Rattle.ante_machine.specs.Stacks.{above, Runs, Fails, RunsTo}
+use Rattle.ante_undo.specs.Stack.{Stack, maps_of, newest, without_newest, IsShelved, IsBroughtBack, IsUnshelved, without_shelf}
+use Rattle.ante_machine.specs.Steps.{block_runs, onward}
+use Rattle.ante_machine.specs.Stacks.{above}
 use Rattle.ante_fork.specs.Tree.{id_of}
 use Rattle.ante_control.specs.Chosen.{Play, Failed, named, replay}
 use Rattle.ante_control.specs.Tabled.{worlds, Holds}

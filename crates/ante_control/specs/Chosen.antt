@@ -1,5 +1,5 @@
 -- Which branch is chosen, over all arrivals, and what a branch's replay from genesis is.
-use Rattle.std.specs.Prelude.{◌≡◌, ℕ, ◌<◌, Bool, nat_lt, if◌then◌else◌, List, [], ◌∷◌, ◌++◌, Result, Ok, Err}
+use Rattle.std.specs.Prelude.{ℕ, Bool, nat_lt, if◌then◌else◌, List, [], ◌∷◌, ◌++◌, Result, Ok, Err}
 use Rattle.ante_types.specs.declared.chain.Block.{Block}
 use Rattle.ante_types.specs.declared.chain.Genesis.{Genesis}
 use Rattle.ante_types.specs.declared.chain.Head.{Head}

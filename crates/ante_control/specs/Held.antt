@@ -1,5 +1,5 @@
 -- What a chain keeps of the block that it makes.
-use Rattle.std.specs.Prelude.{◌≡◌, ℕ, ◌+◌, ◌≤◌, ◌<◌, List, length, Option, IfSome}
+use Rattle.std.specs.Prelude.{◌≡◌, ℕ, ◌+◌, ◌≤◌, List, length, Option, IfSome}
 use Rattle.std.specs.List.{flat_map, AllByRecursion}
 use Rattle.ante_types.specs.declared.chain.BlockInfo.{BlockInfo}
 use Rattle.ante_types.specs.declared.chain.Receipt.{Receipt}

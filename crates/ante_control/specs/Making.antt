@@ -1,6 +1,5 @@
 -- The block that is being made, and the block that it becomes.
-use Rattle.std.specs.Prelude.{◌≡◌, ℕ, ◌+◌, ◌≤◌, ◌<◌, nat_le, Bool, true, List, [], ◌∷◌, ◌++◌, length, replicate, Option, None, Some, IfSome}
-use Rattle.std.specs.List.{AllByRecursion}
+use Rattle.std.specs.Prelude.{◌≡◌, ℕ, ◌+◌, ◌<◌, nat_le, Bool, true, List, [], ◌∷◌, ◌++◌, length, replicate, Option, None, Some, IfSome}
 use Rattle.ante_pack.specs.declared.names.Name.{Name}
 use Rattle.ante_types.specs.declared.chain.Block.{Block}
 use Rattle.ante_types.specs.declared.chain.BlockInfo.{BlockInfo}
@@ -8,7 +7,7 @@ use Rattle.ante_types.specs.declared.chain.Header.{Header}
 use Rattle.ante_types.specs.declared.chain.Receipt.{Receipt}
 use Rattle.ante_types.specs.declared.failure.Failure.{Failure}
 use Rattle.ante_types.specs.declared.trace.Trace.{Trace}
-use Rattle.ante_types.specs.Chain.{block, receipt}
+use Rattle.ante_types.specs.Chain.{block}
 use Rattle.ante_types.specs.Ids.{block_id, block_num, trx_root}
 use Rattle.ante_verdicts.specs.Judge.{Judge}
 use Rattle.ante_machine.specs.Stacks.{Pending}

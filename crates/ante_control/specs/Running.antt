@@ -1,11 +1,11 @@
 -- What running the blocks of a branch on a machine leaves and answers.
-use Rattle.std.specs.Prelude.{◌≡◌, ℕ, ◌+◌, List, [], ◌++◌, length, true, is_some, Option, None, Result, Ok, Err}
+use Rattle.std.specs.Prelude.{◌≡◌, ℕ, ◌+◌, List, ◌++◌, length, true, is_some, None, Result, Ok, Err}
 use Rattle.ante_types.specs.declared.chain.Block.{Block}
 use Rattle.ante_undo.specs.Stack.{Stack, maps_of}
 use Rattle.ante_fork.specs.Tree.{id_of, find_block}
 use Rattle.ante_control.specs.declared.branches.BranchError.{BranchError}
 use Rattle.ante_control.specs.declared.branches.BranchError.TheVariants.{OutOfMemory, Invalid}
-use Rattle.ante_control.specs.Chosen.{Play, Failed, replay}
+use Rattle.ante_control.specs.Chosen.{Play, replay}
 use Rattle.ante_control.specs.Tabled.{worlds, Holds}
 
 -- k worlds more

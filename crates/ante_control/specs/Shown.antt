@@ -1,5 +1,5 @@
 -- A chain's parts as contracts see them.
-use Rattle.std.specs.Prelude.{◌≡◌, ℕ, List, Option, None, Some}
+use Rattle.std.specs.Prelude.{ℕ, List, Option, None, Some}
 use Rattle.ante_types.specs.declared.chain.BlockInfo.{BlockInfo}
 use Rattle.ante_types.specs.declared.chain.Head.{Head}
 use Rattle.ante_types.specs.declared.chain.Receipt.{Receipt}

@@ -1,5 +1,5 @@
 -- The worlds of a machine against the replays of a branch.
-use Rattle.std.specs.Prelude.{◌≡◌, ℕ, ◌+◌, ◌≤◌, true, List, [], ◌∷◌, length, reverse, Option, None, IfSome, Result, Ok}
+use Rattle.std.specs.Prelude.{◌≡◌, ℕ, ◌+◌, ◌≤◌, true, List, [], ◌∷◌, length, reverse, Option, None, IfSome, Ok}
 use Rattle.std.specs.List.{AllByRecursion}
 use Rattle.ante_types.specs.declared.chain.Block.{Block}
 use Rattle.ante_types.specs.Ids.{block_num}

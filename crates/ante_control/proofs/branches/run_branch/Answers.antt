@@ -1,12 +1,12 @@
-use Rattle.std.proofs.Common.{◌≡◌, ℕ, ◌+◌, ◌-◌, ◌<◌, length, drop, refl, sym, ap, subst, ◌∙◌, arith, List, ◌∷◌, Err}
-use Rattle.ante_fork.specs.Tree.{branch, meeting}
+use Rattle.std.proofs.Common.{◌-◌, drop, refl, subst, ◌∙◌, arith, List, ◌∷◌, Err}
+use Rattle.ante_fork.specs.Tree.{branch}
 use Rattle.ante_types.specs.declared.chain.Block.{Block}
 use Rattle.ante_verdicts.specs.Judge.{Judge}
 use Rattle.ante_control.specs.Chosen.{play_of}
 use Rattle.ante_control.specs.Tabled.{Holds, worlds}
 use Rattle.ante_control.specs.Running.{BranchEnds}
 use Rattle.ante_control.proofs.Ways.{rise, is_next, never_none}
-use Rattle.ante_control.proofs.Turns.{running_start, running_more, running_end, branch_fails, next_off}
+use Rattle.ante_control.proofs.Turns.{running_start, running_more, branch_fails, next_off}
 use Rattle.ante_control.proofs.branches.run_branch.Goals as goal
 
 pub loop-k-init : goal.loop-k-init

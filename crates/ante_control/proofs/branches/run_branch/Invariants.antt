@@ -1,4 +1,4 @@
-use Rattle.std.proofs.Common.{◌≡◌, ℕ, ◌+◌, ◌≤◌, IsNone}
+use Rattle.std.proofs.Common.{◌≡◌, ◌+◌, ◌≤◌, IsNone}
 use Rattle.ante_control.specs.Chosen.{play_of}
 use Rattle.ante_control.proofs.Turns.{IsRunning}
 use Rattle.ante_control.proofs.branches.run_branch.Given as goal

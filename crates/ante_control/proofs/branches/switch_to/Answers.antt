@@ -1,11 +1,9 @@
-use Rattle.std.proofs.Common.{◌≡◌, ℕ, ◌+◌, ◌-◌, ◌<◌, ◌≤◌, length, refl, sym, ap, subst, ◌∙◌, arith, List, Err}
-use Rattle.ante_undo.specs.Stack.{Stack, without_shelf}
+use Rattle.std.proofs.Common.{◌+◌, sym, subst, ◌∙◌, arith, Err}
 use Rattle.ante_verdicts.specs.Judge.{Judge}
 use Rattle.ante_fork.specs.Tree.{branch, meeting}
 use Rattle.ante_control.specs.Chosen.{play_of}
 use Rattle.ante_control.specs.Tabled.{Holds, worlds}
 use Rattle.ante_control.specs.Running.{BranchEnds, IsReplaced}
-use Rattle.ante_control.proofs.Ways.{rise}
 use Rattle.ante_control.proofs.Worlds.{replaced, brought_back}
 use Rattle.ante_control.proofs.Switches.{never_path, is_way, shelved_holds, ends_any, shelf_some}
 use Rattle.ante_control.proofs.branches.switch_to.Goals as goal

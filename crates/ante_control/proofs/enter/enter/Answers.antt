@@ -1,4 +1,4 @@
-use Rattle.std.proofs.Common.{◌≡◌, ℕ, ◌<◌, false, ap, sym, ◌∙◌, arith}
+use Rattle.std.proofs.Common.{◌≡◌, ◌<◌, false, ap, sym, ◌∙◌, arith}
 use Rattle.ante_types.specs.Ids.{block_num}
 use Rattle.ante_verdicts.specs.Judge.{Judge}
 use Rattle.ante_control.specs.Pushing.{is_sealed}

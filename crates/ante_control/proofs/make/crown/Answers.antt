@@ -1,4 +1,4 @@
-use Rattle.std.proofs.Common.{◌≡◌, ap, sym, ◌∙◌}
+use Rattle.std.proofs.Common.{ap, ◌∙◌}
 use Rattle.ante_fork.specs.Finality.{settled}
 use Rattle.ante_fork.specs.Tree.{with_block, with_head}
 use Rattle.ante_control.proofs.Standing.{entered_off, entered_gone}

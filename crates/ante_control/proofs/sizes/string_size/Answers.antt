@@ -1,4 +1,4 @@
-use Rattle.std.proofs.Common.{length, arith}
+use Rattle.std.proofs.Common.{arith}
 use Rattle.ante_control.proofs.Lengths.{string_length}
 use Rattle.ante_control.proofs.sizes.string_size.Goals as goal
 

@@ -1,4 +1,4 @@
-use Rattle.std.proofs.Common.{◌≡◌, ℕ, ◌++◌, ◌∷◌, [], List, length, ap, sym, subst, ◌∙◌}
+use Rattle.std.proofs.Common.{ℕ, ◌++◌, ◌∷◌, [], length, ap, sym, subst, ◌∙◌}
 use Rattle.ante_types.specs.declared.chain.Head.{Head}
 use Rattle.ante_verdicts.specs.Judge.{Judge}
 use Rattle.ante_fork.specs.Finality.{settled}

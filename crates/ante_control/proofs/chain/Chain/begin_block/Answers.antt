@@ -1,4 +1,4 @@
-use Rattle.std.proofs.Common.{◌≡◌, ◌+◌, sym, ap, subst, refl, ◌∙◌}
+use Rattle.std.proofs.Common.{◌+◌, sym, ap, subst, refl, ◌∙◌}
 use Rattle.ante_types.specs.Ids.{block_num}
 use Rattle.ante_types.specs.declared.chain.BlockInfo.{BlockInfo}
 use Rattle.ante_control.specs.Held.{IsNext}
@@ -20,11 +20,11 @@ invariant_of-self-2 g c =
           (g.M.Worlds.stack c.self.inside.machine) (g.M.Worlds.stack c.begin.new.self) (making c.self.inside.receipts.items (g.M.BlockMachine.pending c.self.inside.machine))
           (making c.clear.new.self.items (g.M.BlockMachine.pending c.begin.new.self)) (g.M.BlockMachine.counted c.self.inside.machine) (g.M.BlockMachine.counted c.begin.new.self) refl c.begin.ensures.stack
           c.self.invariant.0,
-      begun_held c.self.inside.tree info _ c.clear.new.self.items (g.M.BlockMachine.pending c.begin.new.self) c.clear.ensures.items next c.in_ok-begin.ensures.ok,
+      begun_held c.self.inside.tree info (g.M.BlockMachine.steps.begin (g.M.Worlds.chain_id c.self.inside.machine) (g.M.Worlds.stack c.self.inside.machine).top info) c.clear.new.self.items (g.M.BlockMachine.pending c.begin.new.self) c.clear.ensures.items next c.in_ok-begin.ensures.ok,
     )
 
 pub returns-clause-made : goal.returns-clause-made
 returns-clause-made g c =
     rw (← c.self.view_is) (λ judge first.
-    begun_made g.M.BlockMachine.steps (g.M.Worlds.chain_id c.self.inside.machine) judge (g.M.Worlds.stack c.self.inside.machine) (g.M.Worlds.stack c.begin.new.self) _ c.clear.new.self.items
+    begun_made g.M.BlockMachine.steps (g.M.Worlds.chain_id c.self.inside.machine) judge (g.M.Worlds.stack c.self.inside.machine) (g.M.Worlds.stack c.begin.new.self) (record { num = c.block_num.result + 1; slot = c.args.slot; producer = c.args.producer; previous = c.head-previous.result }) c.clear.new.self.items
     (g.M.BlockMachine.pending c.begin.new.self) c.clear.ensures.items c.in_ok-begin.ensures.ok c.begin.ensures.stack)

@@ -1,6 +1,6 @@
-use Rattle.std.proofs.Common.{◌≡◌, ℕ, ◌<◌, ◌≤◌, IsNone, IfErr, List, sym, ap, subst, ◌∙◌, arith}
+use Rattle.std.proofs.Common.{◌<◌, ◌≤◌, IsNone, sym, ap, subst, ◌∙◌, arith}
 use Rattle.ante_types.specs.Ids.{block_num}
-use Rattle.ante_fork.specs.Tree.{id_of, branch}
+use Rattle.ante_fork.specs.Tree.{branch}
 use Rattle.ante_control.specs.Chosen.{play_of}
 use Rattle.ante_control.specs.Running.{BranchEnds}
 use Rattle.ante_control.specs.Shown.{making}
