@@ -1,9 +1,10 @@
 //! Pushes blocks onto chains by the table in `data/`, which the program's word names, and prints what becomes of each, the head
 //! and the irreversible number; then the applied list, and the numbers that the machine's world has.
 //!
-//! In the table `genesis` has the packed genesis, `block` a name and a packed block, and `push` pushes blocks onto a new chain.
-//! `make` makes a block on that chain, of transactions that ask for numbers, and `drop` begins one and abandons it. All other lines
-//! are headings, and are printed as they are.
+//! In the table `genesis` has the packed genesis, `block` a name and a packed block, `id` a name and a block's id, and `trx` a name and
+//! a packed transaction. `push` goes through its words on a new chain: a name pushes a block, `make:SLOT:NAMES` makes one of these
+//! transactions, `drop:SLOT:NAMES` begins one and abandons it, and `fill:SLOT:NAME` makes one of as many of this transaction as have
+//! room. All other lines are headings, and are printed as they are.
 //!
 //! What is to be printed was computed apart from the program.
 #![tactic(auto)]

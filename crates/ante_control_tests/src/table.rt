@@ -1,5 +1,5 @@
-//! A table's lines: blocks, and chains onto which they are pushed.
-use crate::pushes::Pushes;
+//! A table's lines: blocks and transactions, and chains onto which blocks are pushed and upon which they are made.
+use crate::pushes::{Pushes, Ran};
 use ante_control::{PushError, Pushed};
 use ante_pack::{Bytes, Digest, Name, name_from_text, name_text};
 use ante_types::{block_id, block_num, read_block};
@@ -15,11 +15,19 @@ struct Entry {
     packed: Bytes,
 }
 
-/// The blocks so far.
+/// A transaction of the table.
+#[derive(Drop)]
+struct Job {
+    name: Name,
+    packed: Bytes,
+}
+
+/// The blocks and transactions so far.
 #[derive(Drop)]
 pub struct Table {
     genesis: Bytes,
     entries: Vec<Entry>,
+    jobs: Vec<Job>,
 }
 
 fn invalid<T>() -> io::Result<T> {
@@ -52,11 +60,29 @@ fn print_name(rt: &impl Print, name: Name) -> io::Result<()> {
     Ok(())
 }
 
+fn print_ran(rt: &impl Print, ran: Ran) -> io::Result<()> {
+    match ran {
+        Ran::Fine { position } => print!(rt; "Fine({position})"),
+        Ran::Failed { position } => print!(rt; "Failed({position})"),
+        Ran::NoRoom => print!(rt; "NoRoom"),
+    }
+}
+
+/// The slot, and what stands behind the colon after it.
+fn slot_of(text: &str) -> io::Result<(u32, &str)> {
+    let Some((slot, rest)) = text.split_once(':') else {
+        return invalid();
+    };
+    let slot = slot.parse().map_err(|_| ErrorKind::InvalidData)?;
+    Ok((slot, rest))
+}
+
 impl Table {
     pub fn new(alloc: Global) -> Table {
         Table {
             genesis: Bytes::new(alloc),
             entries: Vec::new(alloc),
+            jobs: Vec::new(alloc),
         }
     }
 
@@ -87,6 +113,45 @@ impl Table {
         Ok(self.entries.push(Entry { name, id, packed })?)
     }
 
+    /// A block that is made in the table, and isn't pushed by its name.
+    fn add_id(&mut self, alloc: Global, text: &str) -> io::Result<()> {
+        let mut words = text.split_whitespace();
+        let name = name_of(words.next().ok_or(ErrorKind::InvalidData)?)?;
+        let mut id = [0; 32];
+        let digits = words.next().ok_or(ErrorKind::InvalidData)?;
+        hex::decode_to_slice(digits, id.as_mut_slice()).map_err(|_| ErrorKind::InvalidData)?;
+        let packed = Bytes::new(alloc);
+        Ok(self.entries.push(Entry { name, id, packed })?)
+    }
+
+    fn add_job(&mut self, alloc: Global, text: &str) -> io::Result<()> {
+        let mut words = text.split_whitespace();
+        let name = name_of(words.next().ok_or(ErrorKind::InvalidData)?)?;
+        let packed = bytes_of(alloc, words.next().ok_or(ErrorKind::InvalidData)?)?;
+        Ok(self.jobs.push(Job { name, packed })?)
+    }
+
+    fn job(&self, alloc: Global, text: &str) -> io::Result<Bytes> {
+        let name = name_of(text)?;
+        for job in self.jobs.iter() {
+            if job.name == name {
+                return Ok(job.packed.try_clone(alloc)?);
+            }
+        }
+        invalid()
+    }
+
+    fn jobs(&self, alloc: Global, text: &str) -> io::Result<Vec<Bytes>> {
+        let mut jobs = Vec::new(alloc);
+        for name in text.split(',') {
+            if !name.is_empty() {
+                let job = self.job(alloc, name)?;
+                jobs.push(job)?;
+            }
+        }
+        Ok(jobs)
+    }
+
     fn print_outcome(&self, rt: &impl Print, pushed: Result<Pushed, PushError>) -> io::Result<()> {
         match pushed {
             Ok(Pushed::Head { position }) => print!(rt; "Head({position})"),
@@ -106,6 +171,64 @@ impl Table {
         }
     }
 
+    fn print_head(&self, rt: &impl Print, pushes: &Pushes) -> io::Result<()> {
+        print!(rt; "/")?;
+        self.print_id(rt, &pushes.head())?;
+        print!(rt; "/{}", pushes.irreversible())
+    }
+
+    fn make(
+        &self,
+        rt: &impl Print,
+        alloc: Global,
+        pushes: &mut Pushes,
+        text: &str,
+        sealed: bool,
+    ) -> io::Result<()> {
+        let (slot, names) = slot_of(text)?;
+        let jobs = self.jobs(alloc, names)?;
+        let outcomes = pushes.make(alloc, slot, jobs.as_slice(), sealed)?;
+        for ran in outcomes.iter() {
+            print_ran(rt, *ran)?;
+        }
+        self.print_head(rt, pushes)
+    }
+
+    fn fill(
+        &self,
+        rt: &impl Print,
+        alloc: Global,
+        pushes: &mut Pushes,
+        text: &str,
+    ) -> io::Result<()> {
+        let (slot, name) = slot_of(text)?;
+        let job = self.job(alloc, name)?;
+        let count = pushes.make_full(alloc, slot, job.as_slice())?;
+        print!(rt; "Fine*{count}")?;
+        self.print_head(rt, pushes)
+    }
+
+    /// A word names a block to push, or says which block to make.
+    fn step(
+        &self,
+        rt: &impl Print,
+        alloc: Global,
+        pushes: &mut Pushes,
+        word: &str,
+    ) -> io::Result<()> {
+        print!(rt; " {word}:")?;
+        if let Some(text) = word.strip_prefix("make:") {
+            return self.make(rt, alloc, pushes, text, true);
+        }
+        if let Some(text) = word.strip_prefix("drop:") {
+            return self.make(rt, alloc, pushes, text, false);
+        }
+        if let Some(text) = word.strip_prefix("fill:") {
+            return self.fill(rt, alloc, pushes, text);
+        }
+        self.push(rt, alloc, pushes, word)
+    }
+
     fn push(
         &self,
         rt: &impl Print,
@@ -115,11 +238,8 @@ impl Table {
     ) -> io::Result<()> {
         let entry = self.entry(name)?;
         let pushed = pushes.push(alloc, entry.packed.as_slice())?;
-        print!(rt; " {name}:")?;
         self.print_outcome(rt, pushed)?;
-        print!(rt; "/")?;
-        self.print_id(rt, &pushes.head())?;
-        print!(rt; "/{}", pushes.irreversible())
+        self.print_head(rt, pushes)
     }
 
     fn print_end(&self, rt: &impl Print, pushes: &Pushes) -> io::Result<()> {
@@ -146,8 +266,8 @@ impl Table {
 
     fn push_all(&self, rt: &impl Print, alloc: Global, text: &str) -> io::Result<()> {
         let mut pushes = Pushes::start(alloc, self.genesis.as_slice())?;
-        for name in text.split_whitespace() {
-            self.push(rt, alloc, &mut pushes, name)?;
+        for word in text.split_whitespace() {
+            self.step(rt, alloc, &mut pushes, word)?;
         }
         self.print_end(rt, &pushes)
     }
@@ -160,6 +280,12 @@ impl Table {
         }
         if let Some(text) = line.strip_prefix("block ") {
             return self.add_block(alloc, text);
+        }
+        if let Some(text) = line.strip_prefix("id ") {
+            return self.add_id(alloc, text);
+        }
+        if let Some(text) = line.strip_prefix("trx ") {
+            return self.add_job(alloc, text);
         }
         if let Some(text) = line.strip_prefix("push ") {
             print!(rt; "{text} =>")?;
