@@ -15,7 +15,7 @@ use Rattle.ante_control.specs.Tabled.{Standing}
 abbrev pub crowned : Block → Choice → Choice
 crowned b c = record { tree = settled (with_head (id_of b) (with_block b c.tree)); applied = c.applied ++ head_of b ∷ [] }
 
--- Whatever the tables are: the block breaks no rule, has its packed form and isn't too long, and is the head.
+-- Whatever the tables are: the block breaks no rule, its receipts can be packed, it isn't too long, and it is the head.
 pub record IsCrowned {W : Type 0} (judge : Judge) (b : Block) (old new : Standing W) : Type 0 where
   pub passes : barrier judge old.choice.tree b ≡ None
   pub fits : (list_of receipt).Fits b.receipts

@@ -1,5 +1,5 @@
 -- Transactions on numbers are sound.
-use Rattle.std.proofs.Common.{◌≡◌, ℕ, ◌+◌, ◌==◌, ◌<◌, ◌≤◌, nat_lt, Bool, true, false, List, [], ◌∷◌, length, Option, None, Some, OnSome, if◌then◌else◌, refl, arith}
+use Rattle.std.proofs.Common.{◌≡◌, ℕ, ◌+◌, ◌==◌, ◌≤◌, Bool, true, false, List, [], ◌∷◌, length, None, Some, if◌then◌else◌, refl, arith}
 use Rattle.std.proofs.lemmas.Bool.Decides.{nat_tests}
 use Rattle.ante_pack.specs.Forms.{list_of, string, varuint, varuint_bytes}
 use Rattle.ante_types.specs.declared.chain.BlockInfo.{BlockInfo}
