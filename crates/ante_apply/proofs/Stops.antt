@@ -24,7 +24,7 @@ rises_none (Some count) = ap Some (sym (looked_none count))
 -- ---- the stop
 
 module _ {S : Type 0} (may : S → Option ℕ → S → Type 0) where
-  looks_both : (xs ys : List (Option ℕ)) (a b c : S) → Looks may a xs b → Looks may b ys c → Looks may a (xs ++ ys) c
+  pub looks_both : (xs ys : List (Option ℕ)) (a b c : S) → Looks may a xs b → Looks may b ys c → Looks may a (xs ++ ys) c
   looks_both [] ys a b c one two = subst (λ x. Looks may x ys c) one two
   looks_both (x ∷ xs) ys a b c one two = (one.0, one.1, looks_both xs ys one.0 b c one.2 two)
 
