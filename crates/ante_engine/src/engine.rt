@@ -59,7 +59,7 @@ impl Engine {
     }
 
     /// Runs a read-only transaction on the newest state, and changes nothing. The trace has this position and head; the slot is that of
-    /// the head's block. Many threads may call it at once.
+    /// the head's block.
     pub fn read_only<P: Stop>(
         &self,
         alloc: Global,

@@ -24,7 +24,7 @@ pub(crate) fn change(alloc: Global, store: &mut Store, change: Change) -> Result
     let mut tables = Writing(store);
     match tables.write(alloc, change) {
         Ok(()) => Ok(()),
-        // Neither change is billed, so that only memory can be wanting.
+        // No change that is made here is billed, so that only memory can be wanting.
         Err(_) => Err(AllocError),
     }
 }

@@ -70,7 +70,7 @@ fn read_actions<P: Stop>(
 }
 
 /// Runs a read-only transaction on the newest state, and changes nothing. The trace has this position and head; the slot is that of the
-/// head's block. Many threads may call it at once.
+/// head's block.
 pub fn read_transaction<P: Stop>(
     alloc: Global,
     modules: &ModuleCache,
